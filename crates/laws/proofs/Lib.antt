@@ -1,0 +1,2 @@
+-- The laws that every crate cites.
+pub mod Bytes

@@ -1,0 +1,2 @@
+-- The definitions that every crate cites.
+pub mod Bytes

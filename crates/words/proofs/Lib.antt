@@ -1,0 +1,3 @@
+-- The laws of little-endian numbers.
+pub mod Places
+pub mod Trips
