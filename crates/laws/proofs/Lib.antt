@@ -1,2 +1,6 @@
 -- The laws that every crate cites.
 pub mod Bytes
+pub mod Numbers
+pub mod Parts
+pub mod Stores
+pub mod Tests

@@ -1,2 +1,5 @@
 -- The definitions that every crate cites.
 pub mod Bytes
+pub mod Numbers
+pub mod Stores
+pub mod Tests

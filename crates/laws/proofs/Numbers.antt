@@ -1,0 +1,10 @@
+-- Rounding up and down, by the remainder's bound.
+use Prim.Native.Nat.{ℕ, zero, suc, _+_, _-_, _*_, _/_, _%_, _≤_, _<_}
+use mathlib.Core.Path.{_≡_, refl, sym, _∙_}
+use native.Mathlib.Nat.{div-add-mod, div-mul-le-self, lt-mul-div-succ, mod-lt}
+use native.Mathlib.Omega.{arith}
+use Rattle.laws.specs.Numbers.{ceiling}
+
+-- a is at most b times a / b rounded up
+pub ceiling-covers : (a b : ℕ) → 1 ≤ b → a ≤ b * ceiling a b
+ceiling-covers a b h = omega (arith, div-add-mod (a + (b - 1)) b, mod-lt (a + (b - 1)) h)

@@ -1,0 +1,39 @@
+-- A row that is filled from the front holds f below n and the old row from n on: by induction on n.
+use Prim.Native.Nat.{ℕ, zero, suc, _≤_, _<_}
+use mathlib.Core.Path.{_≡_, refl, sym, ap, _∙_}
+use mathlib.Core.List.{List}
+use native.Mathlib.Nat.{not-suc-le-zero}
+use native.Mathlib.Decide.{ℕ-discrete}
+use native.Mathlib.Omega.{arith}
+use lib.ListN.{length, getD, set, length-set}
+use lib.Seq.{getD-set-same, getD-set-other, ext-getD}
+use Rattle.laws.specs.Stores.{filled}
+
+module _ {A : Type 0} (f : ℕ → A) (l : List A) (d : A) where
+  pub length-filled : (n : ℕ) → length (filled f n l) ≡ length l
+  unfolding filled
+  length-filled zero = refl
+  length-filled (suc n) = length-set (filled f n l) n (f n) ∙ length-filled n
+
+  pub filled-below : (n i : ℕ) → n ≤ length l → i < n → getD (filled f n l) i d ≡ f i
+  unfolding filled
+  filled-below zero i h p = absurd (not-suc-le-zero p)
+  filled-below (suc n) i h p = go (ℕ-discrete i n) (filled-below n i (omega arith))
+    where
+      go : Dec (i ≡ n) → (i < n → getD (filled f n l) i d ≡ f i) → getD (set (filled f n l) n (f n)) i d ≡ f i
+      go (yes q) k = rw q (getD-set-same (filled f n l) n (f n) d (rw (length-filled n) h))
+      go (no q) k = getD-set-other (filled f n l) n i (f n) d q ∙ k (omega arith)
+
+  pub filled-past : (n i : ℕ) → n ≤ i → getD (filled f n l) i d ≡ getD l i d
+  unfolding filled
+  filled-past zero i h = refl
+  filled-past (suc n) i h =
+      getD-set-other (filled f n l) n i (f n) d (λ q. omega arith) ∙ filled-past n i (omega arith)
+
+module _ {A : Type 0} (s l : List A) (d : A) where
+  -- filled with another list's elements, to the end, a row of its length is that list
+  pub filled-whole : length s ≡ length l → filled (λ i. getD s i d) (length s) l ≡ s
+  filled-whole e =
+      let g : ℕ → A = λ i. getD s i d in
+      let n : length (filled g (length s) l) ≡ length s = length-filled g l d (length s) ∙ sym e in
+      ext-getD d (filled g (length s) l) s n (λ i h. filled-below g l d (length s) i (omega arith) (rw n at h))

@@ -1,0 +1,26 @@
+-- What tests tell: a list of tests holds exactly if each does, and two answers that equal one thing are the same answer.
+use Prim.Native.Nat.{ℕ, zero, suc}
+use mathlib.Core.Path.{_≡_, refl, sym, _∙_}
+use mathlib.Core.Bool.{Bool, true, false, cond}
+use mathlib.Core.List.{List, [], _∷_}
+use native.Mathlib.Omega.{arith}
+use lib.ListN.{getD}
+use Rattle.laws.specs.Tests.{allOf}
+
+-- a contract `r ≡ x` admits a single answer
+pub single : {A : Type 0} {x a b : A} → a ≡ x → b ≡ x → a ≡ b
+single p q = p ∙ sym q
+
+pub true-not-false : true ≡ false → ⊥
+true-not-false e = let z : _≡_ {A = ℕ} 0 1 = cc in omega arith
+
+pub same-test : (b : Bool) → cond b true false ≡ b
+same-test true = refl
+same-test false = refl
+
+-- where all tests hold, each does
+pub each-holds : (bs : List Bool) → allOf bs ≡ true → (i : ℕ) → getD bs i true ≡ true
+each-holds [] e i = refl
+each-holds (true ∷ bs) e zero = refl
+each-holds (true ∷ bs) e (suc i) = each-holds bs e i
+each-holds (false ∷ bs) e i = absurd (true-not-false (sym e))

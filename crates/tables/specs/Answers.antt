@@ -1,0 +1,19 @@
+-- Document 01's number and position for each case of an answer about a table.
+use Prim.Native.Nat.{ℕ}
+use Rattle.tables.specs.declared.Answer.{Answer}
+use Rattle.tables.specs.declared.Answer.the-variants.{Accepted, Refused}
+use Rattle.tables.specs.declared.Row.{Row}
+use Rattle.tables.specs.declared.Row.the-variants as Row
+
+-- 0 where nothing is refused: no refusal has that number
+abbrev pub numberOf : Answer → ℕ
+numberOf Accepted = 0
+numberOf (Refused n p) = n
+
+abbrev pub positionOf : Answer → ℕ
+positionOf Accepted = 0
+positionOf (Refused n p) = p
+
+abbrev pub rowNumber : Row → ℕ
+rowNumber (Row.Task t) = 0
+rowNumber (Row.Refused n) = n

@@ -1,0 +1,25 @@
+-- Document 01, "Refusal numbers", for tables: 1 first, then task by task the first fault, with its position.
+use Prim.Native.Nat.{ℕ, zero, suc}
+use mathlib.Core.Bool.{cond}
+use lib.ListN.{getD}
+use Rattle.tables.specs.declared.Table.{Table}
+use Rattle.tables.specs.declared.Answer.{Answer}
+use Rattle.tables.specs.declared.Answer.the-variants.{Accepted, Refused}
+use Rattle.tables.specs.Rules.{taskFault, countHolds, noTask}
+
+-- a refusal stands; after none, a fault at position i is refused there
+abbrev pub orElse : Answer → ℕ → ℕ → Answer
+orElse Accepted zero i = Accepted
+orElse Accepted (suc n) i = Refused (suc n) i
+orElse (Refused n p) f i = Refused n p
+
+-- the first fault of the first n positions, where f gives each position's number, 0 for none
+unfoldable pub firstFault : (ℕ → ℕ) → ℕ → Answer
+firstFault f zero = Accepted
+firstFault f (suc n) = orElse (firstFault f n) (f n) n
+
+abbrev pub faultAt : Table → ℕ → ℕ
+faultAt t i = taskFault (getD (t .tasks) i noTask)
+
+unfoldable pub judged : Table → Answer
+judged t = cond (countHolds (t .count)) (firstFault (faultAt t) (t .count)) (Refused 1 0)

@@ -1,0 +1,40 @@
+// w, h and top of (m, K), on every pair of bytes.
+ghost use mathlib.Core.Path.{_≡_};
+ghost use Rattle.tables.specs.Thresholds.{wOf, hOf, topOf};
+
+pub fn w(m: u8, k: u8) -> u8
+    ensures { λ r. ⌜ r ≡ wOf m k ⌝ }
+{
+    if m == 0 {
+        return 0;
+    }
+    if k <= m {
+        return 1;
+    }
+    let floor = m / (k - m);
+    if floor < 1 { 1 } else { floor }
+}
+
+pub fn h(m: u8, k: u8) -> u8
+    ensures { λ r. ⌜ r ≡ hOf m k ⌝ }
+{
+    if m == 0 {
+        return 1;
+    }
+    if k <= m {
+        return 0;
+    }
+    (k - m + (m - 1)) / m
+}
+
+pub fn top(m: u8, k: u8) -> u8
+    ensures { λ r. ⌜ r ≡ topOf m k ⌝ }
+{
+    if m == 0 {
+        return 0;
+    }
+    if k <= m {
+        return 0;
+    }
+    k - m
+}
