@@ -24,3 +24,19 @@ each-holds [] e i = refl
 each-holds (true ∷ bs) e zero = refl
 each-holds (true ∷ bs) e (suc i) = each-holds bs e i
 each-holds (false ∷ bs) e i = absurd (true-not-false (sym e))
+
+-- a test tells whether P holds
+pub record Tells (b : Bool) (P : Type 0) : Type 0 where
+  pub holds : b ≡ true → P
+  pub fails : b ≡ false → P → ⊥
+
+pub tells : {b : Bool} {P : Type 0} → (b ≡ true → P) → (P → b ≡ true) → Tells b P
+tells f g = record { holds = f; fails = λ e p. true-not-false (sym (g p) ∙ e) }
+
+pub tells-true : {b : Bool} {P : Type 0} → Tells b P → P → b ≡ true
+tells-true {b = true} t p = refl
+tells-true {b = false} t p = absurd (t .fails refl p)
+
+pub tells-false : {b : Bool} {P : Type 0} → Tells b P → (P → ⊥) → b ≡ false
+tells-false {b = true} t n = absurd (n (t .holds refl))
+tells-false {b = false} t n = refl

@@ -1,5 +1,7 @@
 -- What is shown of the table beside the functions' contracts.
+pub mod Exactly
 pub mod Faults
+pub mod Records
 pub mod Rows
 pub mod Ruling
 pub mod Worked

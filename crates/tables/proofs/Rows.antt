@@ -9,12 +9,7 @@ use Rattle.tables.specs.declared.Row.{Row}
 use Rattle.tables.specs.declared.Row.the-variants as Row
 use Rattle.tables.specs.declared.Task.{Task}
 use Rattle.tables.specs.Rules.{taskFault}
-use Rattle.tables.specs.Reading.{taskOf, recordFault, rowBy, readRow}
-
--- the mark's two bytes
-pub record Marked (s : List ℕ) : Type 0 where
-  pub first : getD s 0 0 ≡ 0x54
-  pub second : getD s 1 0 ≡ 0x4B
+use Rattle.tables.specs.Reading.{Marked, taskOf, recordFault, rowBy, readRow}
 
 module _ (s : List ℕ) where
   pub not-16 : (length s ≡ 16 → ⊥) → recordFault s ≡ 1

@@ -1,6 +1,6 @@
 -- Document 01, "Refusal numbers", for tables: 1 first, then task by task the first fault, with its position.
 use Prim.Native.Nat.{ℕ, zero, suc}
-use mathlib.Core.Bool.{cond}
+use mathlib.Core.Bool.{Bool, cond}
 use lib.ListN.{getD}
 use Rattle.tables.specs.declared.Table.{Table}
 use Rattle.tables.specs.declared.Answer.{Answer}
@@ -18,8 +18,12 @@ unfoldable pub firstFault : (ℕ → ℕ) → ℕ → Answer
 firstFault f zero = Accepted
 firstFault f (suc n) = orElse (firstFault f n) (f n) n
 
+-- 1 at position 0 where the count's test fails, before all else
+abbrev pub oneThen : Bool → (ℕ → ℕ) → ℕ → Answer
+oneThen b f n = cond b (firstFault f n) (Refused 1 0)
+
 abbrev pub faultAt : Table → ℕ → ℕ
 faultAt t i = taskFault (getD (t .tasks) i noTask)
 
 unfoldable pub judged : Table → Answer
-judged t = cond (countHolds (t .count)) (firstFault (faultAt t) (t .count)) (Refused 1 0)
+judged t = oneThen (countHolds (t .count)) (faultAt t) (t .count)

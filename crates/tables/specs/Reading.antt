@@ -1,5 +1,6 @@
 -- Document 01, "The task table": the table record, and what table bytes read as.
 use Prim.Native.Nat.{ℕ, zero, suc, _*_, _/_, _%_}
+use mathlib.Core.Path.{_≡_}
 use mathlib.Core.Bool.{Bool, false, cond}
 use mathlib.Core.List.{List, [], _∷_}
 use lib.Dec.{eqb}
@@ -14,10 +15,14 @@ use Rattle.tables.specs.declared.Answer.the-variants.{Accepted, Refused}
 use Rattle.tables.specs.declared.Row.{Row}
 use Rattle.tables.specs.declared.Row.the-variants as Row
 use Rattle.tables.specs.declared.TableRead.{TableRead}
-use Rattle.tables.specs.Rules.{taskFault, countHolds, noTask}
-use Rattle.tables.specs.Judging.{firstFault}
+use Rattle.tables.specs.Rules.{Counted, taskFault, countHolds, noTask}
+use Rattle.tables.specs.Judging.{oneThen}
 
 -- mark 0x54 0x4B
+pub record Marked (s : List ℕ) : Type 0 where
+  pub first : getD s 0 0 ≡ 0x54
+  pub second : getD s 1 0 ≡ 0x4B
+
 abbrev pub markHolds : List ℕ → Bool
 markHolds s = allOf (eqb (getD s 0 0) 0x54 ∷ eqb (getD s 1 0) 0x4B ∷ [])
 
@@ -54,11 +59,15 @@ abbrev pub taskAt : List ℕ → ℕ → Task
 taskAt s i = taskOf (recordAt s i)
 
 -- 16 times a count of 1 to 16
+pub record Whole (s : List ℕ) : Type 0 where
+  pub sixteens : length s % 16 ≡ 0
+  pub counted : Counted (length s / 16)
+
 abbrev pub bytesHold : List ℕ → Bool
 bytesHold s = cond (eqb (length s % 16) 0) (countHolds (length s / 16)) false
 
 unfoldable pub readAnswer : List ℕ → Answer
-readAnswer s = cond (bytesHold s) (firstFault (recordFaultAt s) (length s / 16)) (Refused 1 0)
+readAnswer s = oneThen (bytesHold s) (recordFaultAt s) (length s / 16)
 
 abbrev pub noTable : Table
 noTable = record { count = 0; tasks = replicate 16 noTask }

@@ -21,6 +21,11 @@ pub record Misses (t : Task) : Type 0 where
   pub fewer : t .m < t .k
   pub hard : t .m ≡ 0 → t .k ≡ 1
 
+-- 1 to 16 tasks
+pub record Counted (n : ℕ) : Type 0 where
+  pub one : 1 ≤ n
+  pub most : n ≤ 16
+
 -- the same as tests
 abbrev pub timesHold : Task → Bool
 timesHold t = allOf (leb 1 (t .c) ∷ leb (t .c) (t .d) ∷ leb (t .d) (t .t) ∷ leb (t .t) 1000000 ∷ [])
@@ -29,13 +34,12 @@ abbrev pub missesHold : Task → Bool
 missesHold t =
     allOf (leb 1 (t .k) ∷ leb (t .k) 64 ∷ ltb (t .m) (t .k) ∷ cond (eqb (t .m) 0) (eqb (t .k) 1) true ∷ [])
 
+abbrev pub countHolds : ℕ → Bool
+countHolds n = allOf (leb 1 n ∷ leb n 16 ∷ [])
+
 -- 3 for the times, then 4 for m and K; 0 where both rules hold
 unfoldable pub taskFault : Task → ℕ
 taskFault t = cond (timesHold t) (cond (missesHold t) 0 4) 3
-
--- 1 to 16 tasks
-abbrev pub countHolds : ℕ → Bool
-countHolds n = allOf (leb 1 n ∷ leb n 16 ∷ [])
 
 -- a place that holds no task
 abbrev pub noTask : Task

@@ -20,9 +20,9 @@ use Rattle.tables.proofs.reading.read_records.Tie as tie
 abbrev Inv-loop : tie.InvT-loop
 Inv-loop bytes count table₀ i₀ table i =
     (i ≤ count)
-    × ( (firstFault (recordFaultAt bytes) i ≡ Accepted)
-      × (table ≡ record { count = count; tasks = filled (taskAt bytes) i (replicate 16 noTask) })
-      )
+    × ((firstFault (recordFaultAt bytes) i ≡ Accepted)
+    × (table ≡ record { count = count; tasks = filled (taskAt bytes) i (replicate 16 noTask) })
+    )
 
 abbrev μ-loop : tie.MeasureT-loop
 μ-loop bytes count table₀ i₀ table i = count - i
@@ -100,11 +100,12 @@ loop-again c =
     let l = d .before .before .before .loop in
     let s = d .before .before .before .before .before .before .args .bytes .now in
     let g = c .before .row .given in
-    let r = task-row (recordAt s (l .i)) (g .0 .0) (sym (part-is s (l .i) (d .read-task .ensures)) ∙ g .1) in
-    ( omega (arith, d .before .before .loop-test .taken)
-    , ( rw add-one (none-more (recordFaultAt s) (l .i) (l .inv .1 .0) (r .0))
-      , rw (l .inv .1 .1, r .1, add-one)
-      )
+    let r = task-row (recordAt s (l .i)) (g .0 .0) (sym (part-is s (l .i) (d .read-task .ensures)) ∙ g .1) in (
+      omega (arith, d .before .before .loop-test .taken),
+      (
+        rw add-one (none-more (recordFaultAt s) (l .i) (l .inv .1 .0) (r .0)),
+        rw (l .inv .1 .1, r .1, add-one),
+      ),
     )
 
 returns-2 : tie.Need-returns-2 Inv-loop μ-loop

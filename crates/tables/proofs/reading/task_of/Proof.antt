@@ -60,11 +60,11 @@ returns c =
     let c₂ = c₃ .before .before in
     let c₁ = c₂ .before .before in
     let s = c₁ .before .before .before .args .row .now in
-    rw
-        ( c₁ .get32 .ensures ∙ ap field (tail-is s 2)
-        , c₂ .get322 .ensures ∙ ap field (tail-is s 6)
-        , c₃ .get323 .ensures ∙ ap field (tail-is s 10)
-        )
+    rw (
+      c₁ .get32 .ensures ∙ ap field (tail-is s 2),
+      c₂ .get322 .ensures ∙ ap field (tail-is s 6),
+      c₃ .get323 .ensures ∙ ap field (tail-is s 10),
+    )
 
 pub task-of-spec : {M : Type 1} → statement M
 task-of-spec =
