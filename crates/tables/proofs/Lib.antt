@@ -1,7 +1,9 @@
 -- What is shown of the table beside the functions' contracts.
 pub mod Exactly
 pub mod Faults
+pub mod Paper
 pub mod Records
 pub mod Rows
 pub mod Ruling
+pub mod Trips
 pub mod Worked

@@ -4,4 +4,5 @@ pub mod Thresholds
 pub mod Answers
 pub mod Judging
 pub mod Reading
+pub mod Tidy
 pub mod Writing

@@ -2,11 +2,18 @@
 ghost use mathlib.Core.Path.{_≡_};
 ghost use Rattle.tables.specs.Thresholds.{wOf, hOf, topOf};
 
+// A hard task's: m = 0.
+const HARD_W: u8 = 0;
+
+const HARD_H: u8 = 1;
+
+const HARD_TOP: u8 = 0;
+
 pub fn w(m: u8, k: u8) -> u8
     ensures { λ r. ⌜ r ≡ wOf m k ⌝ }
 {
     if m == 0 {
-        return 0;
+        return HARD_W;
     }
     if k <= m {
         return 1;
@@ -19,7 +26,7 @@ pub fn h(m: u8, k: u8) -> u8
     ensures { λ r. ⌜ r ≡ hOf m k ⌝ }
 {
     if m == 0 {
-        return 1;
+        return HARD_H;
     }
     if k <= m {
         return 0;
@@ -31,7 +38,7 @@ pub fn top(m: u8, k: u8) -> u8
     ensures { λ r. ⌜ r ≡ topOf m k ⌝ }
 {
     if m == 0 {
-        return 0;
+        return HARD_TOP;
     }
     if k <= m {
         return 0;
