@@ -1,8 +1,8 @@
 -- Parts of a list of bytes are lists of bytes, since each of their elements is one of the list's.
-use Prim.Native.Nat.{ℕ, zero, suc, _+_, _<_}
+use Prim.Native.Nat.{ℕ, zero, suc, _+_}
 use mathlib.Core.List.{List, [], _∷_}
 use native.Mathlib.Omega.{arith}
-use lib.ListN.{getD, take, drop}
+use lib.ListN.{take, drop}
 use lib.Seq.{getD-drop}
 use Rattle.laws.specs.Bytes.{AreBytes}
 

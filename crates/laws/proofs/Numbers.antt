@@ -1,7 +1,6 @@
 -- Rounding up and down, by the remainder's bound.
-use Prim.Native.Nat.{ℕ, zero, suc, _+_, _-_, _*_, _/_, _%_, _≤_, _<_}
-use mathlib.Core.Path.{_≡_, refl, sym, _∙_}
-use native.Mathlib.Nat.{div-add-mod, div-mul-le-self, lt-mul-div-succ, mod-lt}
+use Prim.Native.Nat.{ℕ, _+_, _-_, _*_, _≤_}
+use native.Mathlib.Nat.{div-add-mod, mod-lt}
 use native.Mathlib.Omega.{arith}
 use Rattle.laws.specs.Numbers.{ceiling}
 

@@ -2,8 +2,5 @@
 pub mod Exactly
 pub mod Faults
 pub mod Paper
-pub mod Records
-pub mod Rows
 pub mod Ruling
-pub mod Trips
 pub mod Worked

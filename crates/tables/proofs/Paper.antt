@@ -1,12 +1,12 @@
 -- Document 003's facts of w and h that the window's proof leans on: a quotient is bounded by its remainder.
 use Prim.Native.Nat.{ℕ, _+_, _-_, _*_, _/_, max, _≤_, _<_}
-use mathlib.Core.Path.{_≡_, refl, sym, _∙_}
+use mathlib.Core.Path.{_≡_, _∙_}
 use native.Mathlib.Nat.{div-eq-of-lt, div-eq-of-lt-le, div-mul-le-self, div-le-self, le-div-iff-mul-le, one-mul, mul-add, mul-one}
 use native.Mathlib.Omega.{arith}
 use borrow.Author.Tests.{ne-eqb}
 use Rattle.laws.specs.Numbers.{ceiling}
 use Rattle.laws.proofs.Numbers.{ceiling-covers}
-use Rattle.tables.specs.Thresholds.{wOf, hOf, topOf}
+use Rattle.tables.specs.Thresholds.{wOf, hOf}
 
 module _ (m k : ℕ) (some : 1 ≤ m) where
   w-is : wOf m k ≡ max 1 (m / (k - m))

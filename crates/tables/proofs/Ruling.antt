@@ -1,6 +1,6 @@
 -- A task's fault is 3, 4 or none exactly when document 01 says so: the tests tell the rules, and the first that fails gives the number.
 use Prim.Native.Nat.{ℕ}
-use mathlib.Core.Path.{_≡_, refl, sym, _∙_}
+use mathlib.Core.Path.{_≡_, refl}
 use mathlib.Core.Bool.{Bool, true, false, cond}
 use mathlib.Core.List.{[], _∷_}
 use mathlib.Core.Logic.{_↔_}
@@ -8,7 +8,7 @@ use native.Mathlib.Decide.{ℕ-discrete}
 use native.Mathlib.Omega.{arith}
 use borrow.Author.Tests.{le-leb, lt-ltb, eq-eqb, ne-eqb, leb-true, ltb-true, eqb-true}
 use lib.Dec.{leb, ltb, eqb}
-use Rattle.laws.proofs.Tests.{Tells, tells, tells-true, tells-false, each-holds, true-not-false}
+use Rattle.laws.proofs.Tests.{Tells, tells, tells-true, tells-false, each-holds}
 use Rattle.tables.specs.declared.Task.{Task}
 use Rattle.tables.specs.Rules.{Times, Misses, timesHold, missesHold, taskFault}
 

@@ -2,8 +2,6 @@
 use Prim.Native.Nat.{ℕ}
 use Rattle.tables.specs.declared.Answer.{Answer}
 use Rattle.tables.specs.declared.Answer.the-variants.{Accepted, Refused}
-use Rattle.tables.specs.declared.Row.{Row}
-use Rattle.tables.specs.declared.Row.the-variants as Row
 
 -- 0 where nothing is refused: no refusal has that number
 abbrev pub numberOf : Answer → ℕ
@@ -13,7 +11,3 @@ numberOf (Refused n p) = n
 abbrev pub positionOf : Answer → ℕ
 positionOf Accepted = 0
 positionOf (Refused n p) = p
-
-abbrev pub rowNumber : Row → ℕ
-rowNumber (Row.Task t) = 0
-rowNumber (Row.Refused n) = n

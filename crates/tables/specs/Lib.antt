@@ -3,6 +3,4 @@ pub mod Rules
 pub mod Thresholds
 pub mod Answers
 pub mod Judging
-pub mod Reading
 pub mod Tidy
-pub mod Writing

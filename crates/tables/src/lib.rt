@@ -1,8 +1,6 @@
-// The task table of document 01: its rules, its thresholds, and its bytes.
-pub mod reading;
+// The task table of document 01: its rules and its thresholds.
 pub mod rules;
 pub mod thresholds;
-pub mod writing;
 
 // C, D and T in ticks; at most m misses in any K jobs in a row.
 pub struct Task {
@@ -21,16 +19,4 @@ pub struct Table {
 pub enum Answer {
     Accepted,
     Refused { number: u8, position: usize },
-}
-
-// What one table record reads as.
-pub enum Row {
-    Task(Task),
-    Refused(u8),
-}
-
-// The table beside the answer: no tasks where it is refused.
-pub struct TableRead {
-    pub answer: Answer,
-    pub table: Table,
 }

@@ -1,6 +1,6 @@
 -- What reading and writing one byte more does, at any width: the loops' steps, by induction on the place.
 use Prim.Native.Nat.{ℕ, zero, suc, _+_, _-_, _*_, _/_, _%_, _^_, _≤_, _<_}
-use mathlib.Core.Path.{_≡_, refl, sym, ap, _∙_}
+use mathlib.Core.Path.{_≡_, refl, ap}
 use mathlib.Core.List.{List, [], _∷_, _++_, append-assoc}
 use native.Mathlib.Nat.{pow-suc, pow-succ', pow-zero, pow-le-pow-right, div-div-eq-div-mul, div-one, lt-of-lt-of-le, not-suc-le-zero}
 use native.Mathlib.Omega.{arith}

@@ -1,14 +1,12 @@
 -- Reading and writing are each other's inverse at every width, by induction on the width.
 use Prim.Native.Nat.{ℕ, zero, suc, _+_, _*_, _/_, _%_, _^_, _≤_, _<_}
-use mathlib.Core.Path.{_≡_, refl, sym, ap, _∙_}
-use mathlib.Core.Bool.{true}
+use mathlib.Core.Path.{_≡_, refl}
 use mathlib.Core.List.{List, [], _∷_, _++_}
 use native.Mathlib.Nat.{pow-suc, pow-zero}
 use native.Mathlib.Omega.{arith}
 use borrow.Author.Tests.{le-leb}
-use lib.Dec.{leb}
-use lib.ListN.{length, getD, take, drop, take-append-drop}
-use lib.Seq.{take-at, drop-at, length-take-le}
+use lib.ListN.{length, take, drop, take-append-drop}
+use lib.Seq.{take-at, length-take-le}
 use Rattle.laws.specs.Bytes.{AreBytes}
 use Rattle.laws.proofs.Bytes.{take-bytes}
 use Rattle.words.specs.Words.{number, bytes, wrote}

@@ -1,11 +1,10 @@
 -- `words::fill` meets its contract. After i turns the first i bytes are written and x is divided by 256 as often; a turn stores one more.
 use Prim.Native.Nat.{_-_, _/_, _≤_, _<_, _^_}
-use mathlib.Core.Path.{_≡_, refl, sym, ap, _∙_}
+use mathlib.Core.Path.{_≡_, refl}
 use mathlib.Core.List.{_++_}
 use native.Mathlib.Nat.{pow-zero, pow-suc, div-one, div-div-eq-div-mul}
 use native.Mathlib.Numerals.{add-one}
 use native.Mathlib.Omega.{arith}
-use borrow.Author.Needs.{needs}
 use lib.ListN.{length, drop, length-set}
 use Rattle.words.specs.Words.{bytes}
 use Rattle.words.proofs.Places.{bytes-store}

@@ -1,11 +1,11 @@
 -- `rules::judge` meets its contract. Before each turn no position passed has a fault, so a fault met is the first.
-use Prim.Native.Nat.{_-_, _≤_, _<_}
-use mathlib.Core.Path.{_≡_, refl, sym, ap, _∙_}
+use Prim.Native.Nat.{_-_, _≤_}
+use mathlib.Core.Path.{_≡_, refl, sym, _∙_}
 use native.Mathlib.Numerals.{add-one}
 use native.Mathlib.Omega.{arith}
 use borrow.Author.Needs.{needs}
 use borrow.Author.Tests.{le-leb, lt-leb}
-use Rattle.tables.specs.declared.Answer.the-variants.{Accepted, Refused}
+use Rattle.tables.specs.declared.Answer.the-variants.{Accepted}
 use Rattle.tables.specs.Judging.{judged, firstFault, faultAt}
 use Rattle.tables.proofs.Faults.{none-more, found-at}
 use Rattle.tables.proofs.rules.judge.Statement.{statement}

@@ -1,7 +1,7 @@
 -- `thresholds::h` meets its contract: `hOf` goes by the same cases, and m - 1 over m is 0.
-use Prim.Native.Nat.{_+_, _-_, _/_, _<_}
-use mathlib.Core.Path.{_≡_, sym}
-use native.Mathlib.Nat.{sub-eq-zero-of-le, div-eq-of-lt}
+use Prim.Native.Nat.{_+_, _-_, _<_}
+use mathlib.Core.Path.{sym}
+use native.Mathlib.Nat.{div-eq-of-lt}
 use native.Mathlib.Omega.{arith}
 use borrow.Author.Needs.{needs}
 use borrow.Author.Tests.{eq-eqb, ne-eqb}

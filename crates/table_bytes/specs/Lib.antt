@@ -1,0 +1,4 @@
+-- What the crate's contracts cite.
+pub mod Answers
+pub mod Reading
+pub mod Writing

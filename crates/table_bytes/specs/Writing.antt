@@ -1,0 +1,39 @@
+-- Document 01, "Writing": the value's own refusal, then 14; bytes past what was written stay, and a refused write leaves all.
+use Prim.Native.Nat.{ℕ, zero, suc, _*_}
+use mathlib.Core.Bool.{cond}
+use mathlib.Core.List.{List, [], _∷_, _++_}
+use lib.Dec.{leb}
+use lib.ListN.{length, getD, drop}
+use Rattle.words.specs.Words.{bytes}
+use Rattle.tables.specs.declared.Task.{Task}
+use Rattle.tables.specs.declared.Table.{Table}
+use Rattle.tables.specs.declared.Answer.{Answer}
+use Rattle.tables.specs.declared.Answer.the-variants.{Accepted, Refused}
+use Rattle.tables.specs.Rules.{noTask}
+use Rattle.tables.specs.Judging.{judged}
+
+-- the 16 bytes of a task
+abbrev pub recordOf : Task → List ℕ
+recordOf t =
+    (0x54 ∷ 0x4B ∷ []) ++ bytes 4 (t .c) ++ bytes 4 (t .d) ++ bytes 4 (t .t) ++ (t .m ∷ t .k ∷ [])
+
+-- the records of the first n tasks
+unfoldable pub recordsOf : List Task → ℕ → List ℕ
+recordsOf ts zero = []
+recordsOf ts (suc n) = recordsOf ts n ++ recordOf (getD ts n noTask)
+
+-- 14 where the value is good and the lent bytes are too few
+abbrev pub ifRoom : Answer → ℕ → ℕ → Answer
+ifRoom Accepted size room = cond (leb size room) Accepted (Refused 14 0)
+ifRoom (Refused n p) size room = Refused n p
+
+unfoldable pub writeAnswer : Table → ℕ → Answer
+writeAnswer t room = ifRoom (judged t) (16 * t .count) room
+
+-- the lent bytes afterwards
+abbrev pub leftBy : Answer → Table → List ℕ → List ℕ
+leftBy Accepted t s = recordsOf (t .tasks) (t .count) ++ drop (16 * t .count) s
+leftBy (Refused n p) t s = s
+
+unfoldable pub wroteTable : Table → List ℕ → List ℕ
+wroteTable t s = leftBy (writeAnswer t (length s)) t s

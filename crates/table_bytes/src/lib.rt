@@ -1,0 +1,19 @@
+// The bytes of a task table: 16 a task, read and written.
+pub mod reading;
+pub mod writing;
+
+use tables::Answer;
+use tables::Table;
+use tables::Task;
+
+// What one table record reads as.
+pub enum Row {
+    Task(Task),
+    Refused(u8),
+}
+
+// The table beside the answer: no tasks where it is refused.
+pub struct TableRead {
+    pub answer: Answer,
+    pub table: Table,
+}

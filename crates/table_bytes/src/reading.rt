@@ -1,0 +1,135 @@
+// Reading table bytes: 1 first, then record by record 2, 3, 4.
+use super::Row;
+use super::TableRead;
+use tables::Answer;
+use tables::Table;
+use tables::Task;
+use tables::rules::judge_task;
+ghost use mathlib.Core.Path.{_≡_};
+ghost use Prim.Native.Nat.{_*_, _≤_};
+ghost use lib.ListN.{length};
+ghost use Rattle.tables.specs.declared.Answer.the-variants.{Refused};
+ghost use Rattle.tables.specs.Judging.{firstFault};
+ghost use Rattle.table_bytes.specs.Reading.{taskOf, readRow, recordFaultAt, noTable, tableOf, beside, readTable};
+
+// The caller's 16 bytes, so that the fields are taken from a copy.
+fn copied(bytes: &[u8]) -> [u8; 16]
+    requires { ⌜ length (now bytes) ≡ 16 ⌝ }
+    ensures { λ r. ⌜ r ≡ now (bytes .entry) ⌝ }
+{
+    let mut copy = [0u8; 16];
+    let mut i: usize = 0;
+    while i < 16 {
+        copy[i] = bytes[i];
+        i += 1;
+    }
+    copy
+}
+
+fn task_of(row: &[u8]) -> Task
+    requires { ⌜ length (now row) ≡ 16 ⌝ }
+    ensures { λ r. ⌜ r ≡ taskOf (now (row .entry)) ⌝ }
+{
+    Task {
+        c: words::get32(&row[2..]),
+        d: words::get32(&row[6..]),
+        t: words::get32(&row[10..]),
+        m: row[14],
+        k: row[15],
+    }
+}
+
+pub fn read_task(bytes: &[u8]) -> Row
+    ensures { λ r. ⌜ r ≡ readRow (now (bytes .entry)) ⌝ }
+{
+    if bytes.len() != 16 {
+        return Row::Refused(1);
+    }
+    let copy = copied(bytes);
+    if copy[0] != 0x54 {
+        return Row::Refused(2);
+    }
+    if copy[1] != 0x4B {
+        return Row::Refused(2);
+    }
+    let task = task_of(&copy);
+    let fault = judge_task(task);
+    if fault != 0 {
+        return Row::Refused(fault);
+    }
+    Row::Task(task)
+}
+
+fn no_table() -> Table
+    ensures { λ r. ⌜ r ≡ noTable ⌝ }
+{
+    let none = Task {
+        c: 0,
+        d: 0,
+        t: 0,
+        m: 0,
+        k: 0,
+    };
+    let tasks = [none; 16];
+    Table {
+        count: 0,
+        tasks: tasks,
+    }
+}
+
+fn refused(number: u8, position: usize) -> TableRead
+    ensures { λ r. ⌜ r ≡ record { answer = Refused number position; table = noTable } ⌝ }
+{
+    let table = no_table();
+    TableRead {
+        answer: Answer::Refused {
+            number: number,
+            position: position,
+        },
+        table: table,
+    }
+}
+
+fn read_records(bytes: &[u8], count: usize) -> TableRead
+    requires { ⌜ (count ≤ 16) × (length (now bytes) ≡ 16 * count) ⌝ }
+    ensures { λ r. ⌜ r ≡ beside (firstFault (recordFaultAt (now (bytes .entry))) count) (tableOf (now (bytes .entry)) count) ⌝ }
+{
+    let mut table = no_table();
+    table.count = count;
+    let mut i: usize = 0;
+    while i < count {
+        let at = 16 * i;
+        let end = at + 16;
+        let row = read_task(&bytes[at..end]);
+        match row {
+            Row::Task(task) => {
+                table.tasks[i] = task;
+            }
+            Row::Refused(number) => {
+                return refused(number, i);
+            }
+        }
+        i += 1;
+    }
+    TableRead {
+        answer: Answer::Accepted,
+        table: table,
+    }
+}
+
+pub fn read(bytes: &[u8]) -> TableRead
+    ensures { λ r. ⌜ r ≡ readTable (now (bytes .entry)) ⌝ }
+{
+    let size = bytes.len();
+    if size % 16 != 0 {
+        return refused(1, 0);
+    }
+    let count = size / 16;
+    if count < 1 {
+        return refused(1, 0);
+    }
+    if 16 < count {
+        return refused(1, 0);
+    }
+    read_records(bytes, count)
+}
