@@ -3,3 +3,4 @@ pub mod Exactly
 pub mod Records
 pub mod Rows
 pub mod Trips
+pub mod Written

@@ -16,20 +16,20 @@ use Rattle.laws.proofs.Parts.{two-at}
 use Rattle.laws.proofs.Stores.{length-filled, filled-below, filled-past}
 use Rattle.words.specs.Words.{number, bytes}
 use Rattle.words.proofs.Trips.{number-of-bytes, bytes-of-number}
-use Rattle.tables.specs.declared.Answer.{Answer}
-use Rattle.tables.specs.declared.Answer.the-variants.{Accepted, Refused}
+use Rattle.tables.specs.declared.Answer.the-variants.{Accepted}
 use Rattle.tables.specs.declared.Task.{Task}
 use Rattle.tables.specs.declared.Table.{Table}
 use Rattle.tables.specs.Rules.{Times, taskFault, noTask}
 use Rattle.tables.specs.Judging.{judged}
 use Rattle.table_bytes.specs.Reading.{Marked, Whole, taskOf, recordFault, recordAt, taskAt, tableOf, readAnswer, readTable}
 use Rattle.tables.specs.Tidy.{Tidy}
-use Rattle.table_bytes.specs.Writing.{recordOf, recordsOf, ifRoom, writeAnswer, wroteTable}
+use Rattle.table_bytes.specs.Writing.{recordOf, recordsOf, writeAnswer, wroteTable}
 use Rattle.tables.proofs.Exactly.{judged-accepted}
 use Rattle.table_bytes.proofs.Exactly.{read-accepted, record-task, length-at}
 use Rattle.table_bytes.proofs.Records.{length-record, length-records}
 use Rattle.tables.proofs.Ruling.{fault-none}
 use Rattle.table_bytes.proofs.Rows.{marked}
+use Rattle.table_bytes.proofs.Written.{write-accepted, write-leaves}
 
 -- ---- one record, written and read
 
@@ -124,25 +124,12 @@ module _ (t : Table) (tidy : Tidy t) (good : judged t ≡ Accepted) where
 
 -- ---- the theorems
 
--- what an accepted write leaves
-pub write-leaves : (t : Table) (s : List ℕ) → writeAnswer t (length s) ≡ Accepted → wroteTable t s ≡ recordsOf (t .tasks) (t .count) ++ drop (16 * t .count) s
-unfolding wroteTable
-write-leaves t s e = rw e
-
-pub write-good : (t : Table) (n : ℕ) → writeAnswer t n ≡ Accepted → judged t ≡ Accepted
-unfolding writeAnswer
-write-good t n e = go (judged t) refl e
-  where
-    go : (a : Answer) → judged t ≡ a → ifRoom a (16 * t .count) n ≡ Accepted → judged t ≡ Accepted
-    go Accepted q r = q
-    go (Refused x p) q r = let z : _≡_ {A = ℕ} 0 1 = cc in absurd (omega arith)
-
 -- a table that is written and read back is the same table
 pub written-read : (t : Table) (s : List ℕ) → Tidy t → writeAnswer t (length s) ≡ Accepted
     → readTable (take (16 * t .count) (wroteTable t s)) ≡ record { answer = Accepted; table = t }
 written-read t s tidy e =
     rw (write-leaves t s e, take-at (recordsOf (t .tasks) (t .count)) (drop (16 * t .count) s) (16 * t .count) (length-records (t .tasks) (t .count)))
-    (records-read t tidy (write-good t (length s) e))
+    (records-read t tidy (write-accepted t (length s) .0 e .0))
 
 -- bytes that read are the records of the table they give
 module _ (s : List ℕ) (b : AreBytes s) (good : readAnswer s ≡ Accepted) where
