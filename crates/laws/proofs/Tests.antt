@@ -1,9 +1,12 @@
 -- What tests tell: a list of tests holds exactly if each does, and two answers that equal one thing are the same answer.
-use Prim.Native.Nat.{ℕ, zero, suc}
+use Prim.Native.Nat.{ℕ, zero, suc, _+_, _-_, _<_}
 use mathlib.Core.Path.{_≡_, refl, sym, _∙_}
 use mathlib.Core.Bool.{Bool, true, false, cond}
 use mathlib.Core.List.{List, [], _∷_}
+use native.Mathlib.Decide.{decLt}
 use native.Mathlib.Omega.{arith}
+use borrow.Author.Tests.{lt-ltb, le-ltb}
+use lib.Dec.{ltb}
 use lib.ListN.{getD}
 use Rattle.laws.specs.Tests.{allOf}
 
@@ -40,3 +43,11 @@ tells-true {b = false} t p = absurd (t .fails refl p)
 pub tells-false : {b : Bool} {P : Type 0} → Tells b P → (P → ⊥) → b ≡ false
 tells-false {b = true} t n = absurd (n (t .holds refl))
 tells-false {b = false} t n = refl
+
+-- a sum below t, tested without the sum
+pub below-less : (a d t : ℕ) → ltb a (t - d) ≡ ltb (a + d) t
+below-less a d t = go (decLt (a + d) t)
+  where
+    go : Dec (a + d < t) → ltb a (t - d) ≡ ltb (a + d) t
+    go (yes p) = lt-ltb a (t - d) (omega arith) ∙ sym (lt-ltb (a + d) t p)
+    go (no q) = le-ltb a (t - d) (omega arith) ∙ sym (le-ltb (a + d) t (omega arith))

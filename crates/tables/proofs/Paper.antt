@@ -2,8 +2,9 @@
 use Prim.Native.Nat.{ℕ, _+_, _-_, _*_, _/_, max, _≤_, _<_}
 use mathlib.Core.Path.{_≡_, _∙_}
 use native.Mathlib.Nat.{div-eq-of-lt, div-eq-of-lt-le, div-mul-le-self, div-le-self, le-div-iff-mul-le, one-mul, mul-add, mul-one}
+use native.Mathlib.Decide.{ℕ-discrete}
 use native.Mathlib.Omega.{arith}
-use borrow.Author.Tests.{ne-eqb}
+use borrow.Author.Tests.{eq-eqb, ne-eqb}
 use Rattle.laws.specs.Numbers.{ceiling}
 use Rattle.laws.proofs.Numbers.{ceiling-covers}
 use Rattle.tables.specs.Thresholds.{wOf, hOf}
@@ -38,3 +39,11 @@ module _ (m k : ℕ) (some : 1 ≤ m) where
   -- the ends of their ranges
   pub w-most : m < k → wOf m k ≤ m
   w-most l = rw w-is (omega (arith, div-le-self m (k - m)))
+
+-- on every pair, w is at most the larger of 1 and m
+pub w-small : (m k : ℕ) → wOf m k ≤ max 1 m
+w-small m k = go (ℕ-discrete m 0)
+  where
+    go : Dec (m ≡ 0) → wOf m k ≤ max 1 m
+    go (yes z) = rw (eq-eqb m 0 z) (omega arith)
+    go (no n) = rw (ne-eqb m 0 n) (omega (arith, div-le-self m (k - m)))

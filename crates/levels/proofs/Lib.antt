@@ -1,0 +1,2 @@
+-- The laws of the signed level.
+pub mod Signs

@@ -1,0 +1,3 @@
+-- What is shown of a record beside the functions' contracts.
+pub mod Marks
+pub mod Steps

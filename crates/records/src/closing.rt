@@ -1,0 +1,126 @@
+// Closing a job: level, run, counts and window together.
+use super::Record;
+use super::counts::next;
+use levels::class;
+use levels::low;
+use levels::raise;
+use tables::thresholds::h;
+use tables::thresholds::top;
+use tables::thresholds::w;
+ghost use mathlib.Core.Path.{_≡_};
+ghost use mathlib.Core.Bool.{true, false};
+ghost use Prim.Native.Nat.{_≤_, _<_, _^_};
+ghost use lib.Count.{ones};
+ghost use Rattle.records.specs.Window.{keptOf, pushed, windowOf, brokenBy};
+ghost use Rattle.records.specs.Closing.{setBack, closed};
+
+// How many of the old marks stay before a new one comes: K - 1, and at most 63.
+fn kept(k: u8) -> u32
+    ensures { λ r. ⌜ (r ≡ keptOf k) × (r < 64) ⌝ }
+{
+    if k < 1 {
+        return 0;
+    }
+    if 64 < k {
+        return 63;
+    }
+    (k - 1) as u32
+}
+
+fn power(e: u32) -> u64
+    requires { ⌜ e < 64 ⌝ }
+    ensures { λ r. ⌜ r ≡ 2 ^ e ⌝ }
+{
+    1u64 << e
+}
+
+fn push(marks: u64, k: u8, miss: u64) -> u64
+    requires { ⌜ miss ≤ 1 ⌝ }
+    ensures { λ r. ⌜ r ≡ pushed k marks miss ⌝ }
+{
+    (marks % power(kept(k))) * 2 + miss
+}
+
+fn misses_in(marks: u64) -> u32
+    ensures { λ r. ⌜ r ≡ ones marks ⌝ }
+{
+    u64::count_ones(marks)
+}
+
+pub fn window(of: Record) -> u32
+    ensures { λ r. ⌜ r ≡ windowOf of ⌝ }
+{
+    misses_in(of.marks)
+}
+
+// What broken becomes once the open job has closed and left these marks.
+fn broken_by(of: Record, marks: u64) -> u64
+    ensures { λ r. ⌜ r ≡ brokenBy of marks ⌝ }
+{
+    if of.broken != 0 {
+        return of.broken;
+    }
+    let m = of.task.m as u32;
+    if m < misses_in(marks) { of.released } else { 0 }
+}
+
+fn sets_back(of: Record) -> bool
+    ensures { λ r. ⌜ r ≡ setBack of ⌝ }
+{
+    if class(of.level) == 0 {
+        return true;
+    }
+    let least = w(of.task.m, of.task.k) as u32;
+    if of.run < least {
+        least <= of.run + 1
+    } else {
+        true
+    }
+}
+
+fn close_met(of: Record) -> Record
+    ensures { λ r. ⌜ r ≡ closed of true ⌝ }
+{
+    let marks = push(of.marks, of.task.k, 0);
+    let broken = broken_by(of, marks);
+    let level = raise(of.level, top(of.task.m, of.task.k));
+    let met = next(of.met);
+    let mut r = of;
+    r.level = level;
+    r.run = 0;
+    r.live = false;
+    r.met = met;
+    r.marks = marks;
+    r.broken = broken;
+    r
+}
+
+fn close_missed(of: Record) -> Record
+    ensures { λ r. ⌜ r ≡ closed of false ⌝ }
+{
+    let marks = push(of.marks, of.task.k, 1);
+    let broken = broken_by(of, marks);
+    let missed = next(of.missed);
+    let mut r = of;
+    r.live = false;
+    r.missed = missed;
+    r.marks = marks;
+    r.broken = broken;
+    if sets_back(of) {
+        let level = low(h(of.task.m, of.task.k));
+        r.level = level;
+        r.run = 0;
+        return r;
+    }
+    r.run = of.run + 1;
+    r
+}
+
+pub fn close(of: Record, met: bool) -> Record
+    ensures { λ r. ⌜ r ≡ closed of met ⌝ }
+{
+    if met {
+        return close_met(of);
+    }
+    close_missed(of)
+}
