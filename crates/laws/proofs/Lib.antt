@@ -1,4 +1,5 @@
 -- The laws that every crate cites.
+pub mod Answers
 pub mod Bytes
 pub mod Numbers
 pub mod Parts

@@ -1,12 +1,12 @@
 -- What tests tell: a list of tests holds exactly if each does, and two answers that equal one thing are the same answer.
-use Prim.Native.Nat.{ℕ, zero, suc, _+_, _-_, _<_}
+use Prim.Native.Nat.{ℕ, zero, suc, _+_, _-_, _≤_, _<_}
 use mathlib.Core.Path.{_≡_, refl, sym, _∙_}
 use mathlib.Core.Bool.{Bool, true, false, cond}
 use mathlib.Core.List.{List, [], _∷_}
-use native.Mathlib.Decide.{decLt}
+use native.Mathlib.Decide.{decLe, decLt}
 use native.Mathlib.Omega.{arith}
-use borrow.Author.Tests.{lt-ltb, le-ltb}
-use lib.Dec.{ltb}
+use borrow.Author.Tests.{le-leb, lt-leb, lt-ltb, le-ltb}
+use lib.Dec.{leb, ltb}
 use lib.ListN.{getD}
 use Rattle.laws.specs.Tests.{allOf}
 
@@ -16,6 +16,15 @@ single p q = p ∙ sym q
 
 pub true-not-false : true ≡ false → ⊥
 true-not-false e = let z : _≡_ {A = ℕ} 0 1 = cc in omega arith
+
+-- a test that is true only where a fact holds is false where it does not
+pub test-false : {P : Type 0} (b : Bool) → (b ≡ true → P) → (P → ⊥) → b ≡ false
+test-false true f n = absurd (n (f refl))
+test-false false f n = refl
+
+-- a fact that makes a test true does not hold where the test is false
+pub fact-not : {P : Type 0} {b : Bool} → (P → b ≡ true) → b ≡ false → P → ⊥
+fact-not f q p = true-not-false (sym (f p) ∙ q)
 
 pub same-test : (b : Bool) → cond b true false ≡ b
 same-test true = refl
@@ -34,15 +43,14 @@ pub record Tells (b : Bool) (P : Type 0) : Type 0 where
   pub fails : b ≡ false → P → ⊥
 
 pub tells : {b : Bool} {P : Type 0} → (b ≡ true → P) → (P → b ≡ true) → Tells b P
-tells f g = record { holds = f; fails = λ e p. true-not-false (sym (g p) ∙ e) }
+tells f g = record { holds = f; fails = fact-not g }
 
 pub tells-true : {b : Bool} {P : Type 0} → Tells b P → P → b ≡ true
 tells-true {b = true} t p = refl
 tells-true {b = false} t p = absurd (t .fails refl p)
 
 pub tells-false : {b : Bool} {P : Type 0} → Tells b P → (P → ⊥) → b ≡ false
-tells-false {b = true} t n = absurd (n (t .holds refl))
-tells-false {b = false} t n = refl
+tells-false {b} t n = test-false b (t .holds) n
 
 -- a sum below t, tested without the sum
 pub below-less : (a d t : ℕ) → ltb a (t - d) ≡ ltb (a + d) t
@@ -51,3 +59,11 @@ below-less a d t = go (decLt (a + d) t)
     go : Dec (a + d < t) → ltb a (t - d) ≡ ltb (a + d) t
     go (yes p) = lt-ltb a (t - d) (omega arith) ∙ sym (lt-ltb (a + d) t p)
     go (no q) = le-ltb a (t - d) (omega arith) ∙ sym (le-ltb (a + d) t (omega arith))
+
+-- t at most a sum, tested without the sum
+pub least-less : (a d t : ℕ) → leb (t - d) a ≡ leb t (a + d)
+least-less a d t = go (decLe t (a + d))
+  where
+    go : Dec (t ≤ a + d) → leb (t - d) a ≡ leb t (a + d)
+    go (yes p) = le-leb (t - d) a (omega arith) ∙ sym (le-leb t (a + d) p)
+    go (no q) = lt-leb (t - d) a (omega arith) ∙ sym (lt-leb t (a + d) (omega arith))

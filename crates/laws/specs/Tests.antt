@@ -6,3 +6,7 @@ use mathlib.Core.List.{List, [], _∷_}
 abbrev pub allOf : List Bool → Bool
 allOf [] = true
 allOf (b ∷ bs) = cond b (allOf bs) false
+
+-- where a holds, b does
+abbrev pub whenever : Bool → Bool → Bool
+whenever a b = cond a b true

@@ -3,4 +3,5 @@ pub mod Rules
 pub mod Thresholds
 pub mod Answers
 pub mod Judging
+pub mod Order
 pub mod Tidy

@@ -1,0 +1,100 @@
+-- A log: each record before the stop reads, reading all and writing all again gives the same bytes, and a written log reads whole.
+use Prim.Native.Nat.{ℕ, zero, suc, _+_, _*_, _<_}
+use mathlib.Core.Path.{_≡_, refl, ap, _∙_}
+use mathlib.Core.List.{List, [], _∷_, _++_}
+use mathlib.Core.Logic.{_⊎_, inl, inr}
+use native.Mathlib.Decide.{decLt}
+use native.Mathlib.Omega.{arith}
+use lib.ListN.{length, getD, take, drop}
+use lib.Seq.{take-add, drop-at, drop-drop}
+use Rattle.laws.specs.Bytes.{AreBytes}
+use Rattle.laws.proofs.Bytes.{drop-bytes}
+use Rattle.events.specs.declared.Event.{Event}
+use Rattle.events.specs.declared.Reading.the-variants as R
+use Rattle.events.specs.Event.{faultOf}
+use Rattle.events.specs.Record.{eventOf, recordOf, readRecord}
+use Rattle.events.specs.Log.{readableIn, readable, readAt, restOf, eventsIn, eventsOf, logOf, Writable}
+use Rattle.events.proofs.Rules.{judge-0}
+use Rattle.events.proofs.ReadOne.{event-of}
+use Rattle.events.proofs.WriteOne.{record-length}
+use Rattle.events.proofs.Trips.{fields-back, written-read, record-back}
+use Rattle.events.proofs.Records.{Goes, Stops, front, goes-of, by-records}
+
+-- a record that reads obeys the rules of event values
+pub read-ruled : (s : List ℕ) (e : Event) → readRecord s ≡ R.Event e → faultOf e ≡ 0
+read-ruled s e q =
+    let w = event-of s e q in
+    judge-0 e .1 (rw (w .1 .1 .1) (w .1 .1 .0))
+
+-- record i + 1 of a log is record i of what stands behind the first
+next-at : (s : List ℕ) (i : ℕ) → drop (20 * i) (drop 20 s) ≡ drop (20 * suc i) s
+next-at s i = let e : 20 * suc i ≡ 20 + 20 * i = omega arith in rw (e, drop-drop (20 * i) 20 s)
+
+-- every record before the stop stands at the front of a part that goes on
+pub goes-at : (i : ℕ) (s : List ℕ) → i < readable s → Goes (drop (20 * i) s)
+goes-at zero s h = go (front s)
+  where
+    go : Goes s ⊎ Stops s → Goes s
+    go (inl g) = g
+    go (inr t) = absurd (omega (arith, t .none))
+goes-at (suc i) s h = go (front s) (λ l. goes-at i (drop 20 s) l)
+  where
+    go : Goes s ⊎ Stops s → (i < readable (drop 20 s) → Goes (drop (20 * i) (drop 20 s))) → Goes (drop (20 * suc i) s)
+    go (inl g) f = rw (next-at s i) at (f (omega (arith, g .counts)))
+    go (inr t) f = absurd (omega (arith, t .none))
+
+-- so reading it gives its event
+pub event-before : (s : List ℕ) (i : ℕ) → i < readable s → readAt s i ≡ R.Event (eventOf (drop (20 * i) s))
+event-before s i h = goes-at i s h .reads
+
+-- and the record at the stop does not read
+pub stops-at : (s : List ℕ) → Stops (restOf s)
+stops-at =
+    by-records (λ s. Stops (restOf s)) (λ s t. rw (t .none) t)
+    (λ s g h. rw (g .counts) (rw (next-at s (readable (drop 20 s))) at h))
+
+-- the number of readable records is the only one with both
+pub readable-only : (s : List ℕ) (n : ℕ) → ((i : ℕ) → i < n → (e : Event) × (readAt s i ≡ R.Event e)) → ((e : Event) → readAt s n ≡ R.Event e → ⊥) → n ≡ readable s
+readable-only s n before stop = go (decLt n (readable s)) (decLt (readable s) n)
+  where
+    go : Dec (n < readable s) → Dec (readable s < n) → n ≡ readable s
+    go (yes l) d = absurd (stop (eventOf (drop (20 * n) s)) (event-before s n l))
+    go (no p) (yes l) = let w = before (readable s) l in absurd (stops-at s .silent (w .0) (w .1))
+    go (no p) (no q) = omega arith
+
+-- reading all of a log and writing all again gives the same bytes up to where the reading stopped
+pub log-again : (s : List ℕ) → AreBytes s → logOf (eventsOf s) ≡ take (20 * readable s) s
+unfolding eventsIn logOf
+log-again =
+    by-records (λ s. AreBytes s → logOf (eventsOf s) ≡ take (20 * readable s) s) (λ s t f. rw (t .none))
+    (λ s g h f.
+    let e : 20 * suc (readable (drop 20 s)) ≡ 20 + 20 * readable (drop 20 s) = omega arith in
+    rw (g .counts, e, take-add 20 (20 * readable (drop 20 s)) s, record-back s (g .long) (g .marked) f, h (drop-bytes 20 s f)))
+
+-- the events of a log, by place
+pub event-of-log : (s : List ℕ) (i : ℕ) (none : Event) → i < readable s → getD (eventsOf s) i none ≡ eventOf (drop (20 * i) s)
+unfolding eventsIn
+event-of-log s i none h = go (readable s) i s h
+  where
+    go : (n i : ℕ) (s : List ℕ) → i < n → getD (eventsIn n s) i none ≡ eventOf (drop (20 * i) s)
+    go zero i s h = absurd (omega arith)
+    go (suc n) zero s h = refl
+    go (suc n) (suc i) s h = go n i (drop 20 s) (omega arith) ∙ ap eventOf (next-at s i)
+
+-- a log that is written reads whole: as many records
+pub log-count : (es : List Event) → Writable es → readable (logOf es) ≡ length es
+unfolding logOf Writable readable readableIn
+log-count [] w = refl
+log-count (e ∷ es) w =
+    let q = written-read e (logOf es) (w .0 .0) (w .0 .1) in
+    let d : drop 20 (recordOf e ++ logOf es) ≡ logOf es = drop-at (recordOf e) (logOf es) 20 (record-length e) in
+    goes-of (recordOf e ++ logOf es) e q .counts ∙ ap suc (ap readable d ∙ log-count es (w .1))
+
+-- and the same events
+pub log-events : (es : List Event) → Writable es → eventsOf (logOf es) ≡ es
+unfolding logOf eventsIn Writable
+log-events es w = rw (log-count es w) (go es w)
+  where
+    go : (es : List Event) → Writable es → eventsIn (length es) (logOf es) ≡ es
+    go [] w = refl
+    go (e ∷ es) w = rw (fields-back e (logOf es) (w .0 .1), drop-at (recordOf e) (logOf es) 20 (record-length e), go es (w .1))

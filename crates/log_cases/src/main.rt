@@ -1,0 +1,13 @@
+// Prints what the library says of each log of standard input, and of a list of event values. A log stands behind its size in two bytes.
+mod logs;
+mod print;
+mod values;
+
+use libc::STDIN_FILENO;
+
+fn main() {
+    let mut input = [0u8; 65537];
+    let size = io::read_full(STDIN_FILENO, &mut input);
+    logs::each(&input[..size]);
+    values::each();
+}

@@ -1,0 +1,77 @@
+// Event values that obey or break the rules, judged and written to slices with and without room.
+use crate::print::number;
+use crate::print::row;
+use crate::print::text;
+use crate::print::wide;
+use events::Event;
+use events::Writing;
+use std::num::wrapping_add_u64;
+
+const KINDS: [u8; 5] = [0, 1, 2, 3, 255];
+
+const TASKS: [u8; 3] = [0, 1, 255];
+
+const JOBS: [u64; 3] = [0, 1, 18446744073709551615];
+
+const ROOMS: [usize; 4] = [0, 19, 20, 24];
+
+fn sum(bytes: &[u8]) -> u64 {
+    let mut total: u64 = 0;
+    let mut i: usize = 0;
+    while i < bytes.len() {
+        total = wrapping_add_u64(total, wide(bytes[i]));
+        i += 1;
+    }
+    total
+}
+
+// Writes to the first bytes of a slice; 0 where it has not so many.
+fn write_to(event: Event, out: &mut [u8], room: usize) -> Writing {
+    if out.len() < room {
+        return Writing::Refused(0);
+    }
+    events::write(event, &mut out[..room])
+}
+
+// What writing says, and the sum of all bytes afterwards.
+fn written(event: Event, out: &mut [u8], room: usize) {
+    match write_to(event, out, room) {
+        Writing::Whole => text(b"written"),
+        Writing::Refused(n) => number(b"refused ", wide(n)),
+    }
+    number(b" sum ", sum(out));
+    text(b"\n");
+}
+
+// One event and one slice, in two lines: how it is judged, and how it is written.
+fn one(kind: u8, task: u8, job: u64, room: usize) {
+    let event = Event {
+        kind: kind,
+        task: task,
+        job: job,
+        time: 1000000000000,
+    };
+    row(
+        b"value ",
+        wide(kind),
+        wide(task),
+        job,
+        room as u64,
+        wide(events::judge(event)),
+    );
+    let mut out = [0x5Au8; 24];
+    written(event, &mut out, room);
+}
+
+pub fn each() {
+    let mut i: usize = 0;
+    while i < 180 {
+        one(
+            KINDS[i / 36],
+            TASKS[i / 12 % 3],
+            JOBS[i / 4 % 3],
+            ROOMS[i % 4],
+        );
+        i += 1;
+    }
+}

@@ -1,0 +1,2 @@
+-- What is shown of soundness beside the functions' contracts.
+pub mod Tested
