@@ -1,0 +1,2 @@
+-- What is shown of the state beside the functions' contracts.
+pub mod Each

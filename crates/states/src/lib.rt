@@ -1,0 +1,25 @@
+// The state of all tasks: fresh from a table, sound or not, and the choice it stands for.
+pub mod choice;
+pub mod fresh;
+pub mod sound;
+
+use records::Record;
+
+pub struct State {
+    pub count: usize,
+    pub clock: u64,
+    pub records: [Record; 16],
+}
+
+// The state beside the answer: no tasks where the table is refused.
+pub struct Started {
+    pub answer: tables::Answer,
+    pub state: State,
+}
+
+// The least open job so far, if there is one.
+pub struct Best {
+    pub found: bool,
+    pub key: u64,
+    pub at: usize,
+}
