@@ -8,7 +8,7 @@ use native.Mathlib.Omega.{arith}
 use borrow.Author.Tests.{le-leb, lt-leb, lt-ltb, le-ltb}
 use lib.Dec.{leb, ltb}
 use lib.ListN.{getD}
-use Rattle.laws.specs.Tests.{allOf}
+use Rattle.laws.specs.Tests.{allOf, whenever}
 
 -- a contract `r ≡ x` admits a single answer
 pub single : {A : Type 0} {x a b : A} → a ≡ x → b ≡ x → a ≡ b
@@ -67,3 +67,24 @@ least-less a d t = go (decLe t (a + d))
     go : Dec (t ≤ a + d) → leb (t - d) a ≡ leb t (a + d)
     go (yes p) = le-leb (t - d) a (omega arith) ∙ sym (le-leb t (a + d) p)
     go (no q) = lt-leb (t - d) a (omega arith) ∙ sym (lt-leb t (a + d) (omega arith))
+
+-- t below a sum, tested without the sum
+pub under-less : (a d t : ℕ) → a ≤ t → ltb (t - a) d ≡ ltb t (a + d)
+under-less a d t h = go (decLt t (a + d))
+  where
+    go : Dec (t < a + d) → ltb (t - a) d ≡ ltb t (a + d)
+    go (yes p) = lt-ltb (t - a) d (omega arith) ∙ sym (lt-ltb t (a + d) p)
+    go (no q) = le-ltb (t - a) d (omega arith) ∙ sym (le-ltb t (a + d) (omega arith))
+
+-- two tests of which the second counts only where the first holds
+pub both-hold : (a b : Bool) → cond a b false ≡ true → (a ≡ true) × (b ≡ true)
+both-hold true b e = (refl, e)
+both-hold false b e = absurd (true-not-false (sym e))
+
+pub whenever-holds : (a b : Bool) → whenever a b ≡ true → a ≡ true → b ≡ true
+whenever-holds true b e q = e
+whenever-holds false b e q = absurd (true-not-false (sym q))
+
+pub whenever-if : (a b : Bool) → (a ≡ true → b ≡ true) → whenever a b ≡ true
+whenever-if true b f = f refl
+whenever-if false b f = refl

@@ -1,2 +1,3 @@
 -- What is shown of soundness beside the functions' contracts.
+pub mod Sounding
 pub mod Tested

@@ -7,15 +7,11 @@ use native.Mathlib.Decide.{ℕ-discrete}
 use native.Mathlib.Nat.{not-suc-le-zero}
 use native.Mathlib.Omega.{arith}
 use lib.ListN.{getD}
-use Rattle.laws.proofs.Tests.{true-not-false}
+use Rattle.laws.proofs.Tests.{both-hold}
 use Rattle.records.specs.declared.Record.{Record}
 use Rattle.records.specs.Opening.{noRecord}
 use Rattle.soundness.specs.Sound.{soundHolds}
 use Rattle.states.specs.Sound.{eachHolds}
-
-both : (b c : Bool) → cond b c false ≡ true → (b ≡ true) × (c ≡ true)
-both true c e = (refl, e)
-both false c e = absurd (true-not-false (sym e))
 
 never : (b : Bool) → cond b false false ≡ false
 never true = refl
@@ -25,10 +21,10 @@ module _ (l : List Record) (clock : ℕ) where
   pub each-at : (n : ℕ) → eachHolds l clock n ≡ true → (i : ℕ) → i < n → soundHolds (getD l i noRecord) clock ≡ true
   unfolding eachHolds
   each-at zero e i h = absurd (not-suc-le-zero h)
-  each-at (suc n) e i h = go (ℕ-discrete i n) (each-at n (both (eachHolds l clock n) (soundHolds (getD l n noRecord) clock) e .0))
+  each-at (suc n) e i h = go (ℕ-discrete i n) (each-at n (both-hold (eachHolds l clock n) (soundHolds (getD l n noRecord) clock) e .0))
     where
       go : Dec (i ≡ n) → ((j : ℕ) → j < n → soundHolds (getD l j noRecord) clock ≡ true) → soundHolds (getD l i noRecord) clock ≡ true
-      go (yes q) k = ap (λ (j : ℕ). soundHolds (getD l j noRecord) clock) q ∙ both (eachHolds l clock n) (soundHolds (getD l n noRecord) clock) e .1
+      go (yes q) k = ap (λ (j : ℕ). soundHolds (getD l j noRecord) clock) q ∙ both-hold (eachHolds l clock n) (soundHolds (getD l n noRecord) clock) e .1
       go (no q) k = k i (omega arith)
 
   pub each-if : (n : ℕ) → ((i : ℕ) → i < n → soundHolds (getD l i noRecord) clock ≡ true) → eachHolds l clock n ≡ true

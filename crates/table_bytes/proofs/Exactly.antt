@@ -10,7 +10,7 @@ use borrow.Author.Tests.{eq-eqb, eqb-true}
 use lib.Dec.{eqb}
 use lib.ListN.{length, getD, drop, length-drop}
 use lib.Seq.{length-take-le}
-use Rattle.laws.proofs.Tests.{Tells, tells, tells-true, tells-false, each-holds, true-not-false}
+use Rattle.laws.proofs.Tests.{Tells, tells, tells-true, tells-false, each-holds, both-hold}
 use Rattle.tables.specs.declared.Answer.the-variants.{Accepted, Refused}
 use Rattle.tables.specs.Rules.{countHolds, taskFault}
 use Rattle.tables.specs.Answers.{numberOf}
@@ -22,12 +22,8 @@ use Rattle.table_bytes.specs.Reading.{Marked, Whole, markHolds, taskOf, 
 pub whole-tells : (s : List ℕ) → Tells (bytesHold s) (Whole s)
 whole-tells s =
     tells
-    (λ e. let h = both (eqb (length s % 16) 0) e in record { sixteens = eqb-true _ _ (h .0); counted = counted-tells (length s / 16) .holds (h .1) })
+    (λ e. let h = both-hold (eqb (length s % 16) 0) (countHolds (length s / 16)) e in record { sixteens = eqb-true _ _ (h .0); counted = counted-tells (length s / 16) .holds (h .1) })
     (λ r. rw (eq-eqb _ _ (r .sixteens)) (tells-true (counted-tells (length s / 16)) (r .counted)))
-  where
-    both : (b : Bool) → cond b (countHolds (length s / 16)) false ≡ true → (b ≡ true) × (countHolds (length s / 16) ≡ true)
-    both true e = (refl, e)
-    both false e = absurd (true-not-false (sym e))
 
 pub marked-tells : (s : List ℕ) → Tells (markHolds s) (Marked s)
 marked-tells s =

@@ -1,0 +1,4 @@
+-- What the crate's contracts cite, in document 01's order.
+pub mod Steps
+pub mod Apply
+pub mod Answers

@@ -1,0 +1,16 @@
+// Events applied to a state, by value: the answer, and the state beside it.
+pub mod apply;
+mod steps;
+
+use states::State;
+
+pub enum Answer {
+    Run { position: usize, class: u32 },
+    Idle,
+    Refused(u8),
+}
+
+pub struct Applied {
+    pub answer: Answer,
+    pub state: State,
+}
