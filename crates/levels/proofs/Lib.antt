@@ -1,2 +1,3 @@
 -- The laws of the signed level.
+pub mod Needs
 pub mod Signs

@@ -1,3 +1,4 @@
 -- What is shown of soundness beside the functions' contracts.
+pub mod Kept
 pub mod Sounding
 pub mod Tested

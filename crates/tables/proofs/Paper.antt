@@ -47,3 +47,10 @@ w-small m k = go (ℕ-discrete m 0)
     go : Dec (m ≡ 0) → wOf m k ≤ max 1 m
     go (yes z) = rw (eq-eqb m 0 z) (omega arith)
     go (no n) = rw (ne-eqb m 0 n) (omega (arith, div-le-self m (k - m)))
+
+pub h-some : (m k : ℕ) → m < k → 1 ≤ hOf m k
+h-some m k l = go (ℕ-discrete m 0)
+  where
+    go : Dec (m ≡ 0) → 1 ≤ hOf m k
+    go (yes z) = rw (eq-eqb m 0 z) (omega arith)
+    go (no n) = rw (ne-eqb m 0 n) (le-div-iff-mul-le {k = m} (omega arith) .1 (rw one-mul (omega arith)))
