@@ -88,3 +88,8 @@ whenever-holds false b e q = absurd (true-not-false (sym q))
 pub whenever-if : (a b : Bool) → (a ≡ true → b ≡ true) → whenever a b ≡ true
 whenever-if true b f = f refl
 whenever-if false b f = refl
+
+-- what both ways of a test have, the one that is taken has
+pub by-test : {A : Type 0} (P : A → Type 0) (b : Bool) (x y : A) → (b ≡ true → P x) → (b ≡ false → P y) → P (cond b x y)
+by-test P true x y f g = f refl
+by-test P false x y f g = g refl

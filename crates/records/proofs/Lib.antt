@@ -1,3 +1,4 @@
 -- What is shown of a record beside the functions' contracts.
 pub mod Marks
+pub mod Ranks
 pub mod Steps

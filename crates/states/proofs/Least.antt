@@ -3,7 +3,7 @@ use Prim.Native.Nat.{ℕ, zero, suc, _≤_, _<_}
 use mathlib.Core.Path.{_≡_, refl, sym, _∙_}
 use mathlib.Core.Bool.{Bool, true, false, cond}
 use mathlib.Core.List.{List}
-use mathlib.Core.Logic.{_⊎_, inl, inr}
+use mathlib.Core.Logic.{inl, inr}
 use native.Mathlib.Decide.{ℕ-discrete}
 use native.Mathlib.Nat.{not-suc-le-zero}
 use native.Mathlib.Omega.{arith}
@@ -14,12 +14,9 @@ use Rattle.laws.proofs.Tests.{true-not-false}
 use Rattle.records.specs.declared.Record.{Record}
 use Rattle.records.specs.Opening.{noRecord}
 use Rattle.records.specs.Rank.{keyOf}
+use Rattle.records.proofs.Ranks.{Before}
 use Rattle.states.specs.declared.Best.{Best}
 use Rattle.states.specs.Choice.{better, bestTo}
-
--- smaller key, or equal keys and smaller position
-abbrev pub Before : Record → ℕ → Record → ℕ → Type 0
-Before r i q j = (keyOf r < keyOf q) ⊎ ((keyOf r ≡ keyOf q) × (i < j))
 
 module _ (l : List Record) where
   abbrev at : ℕ → Record

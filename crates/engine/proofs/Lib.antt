@@ -1,0 +1,3 @@
+-- What is shown of the engine beside the functions' contracts.
+pub mod Kept
+pub mod Places
