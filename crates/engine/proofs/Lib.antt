@@ -1,3 +1,4 @@
 -- What is shown of the engine beside the functions' contracts.
 pub mod Kept
 pub mod Places
+pub mod Worked
