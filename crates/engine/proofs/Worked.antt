@@ -5,7 +5,6 @@ use mathlib.Core.List.{List, [], _∷_, map}
 use lib.Count.{ones, onesIn}
 use lib.ListN.{replicate}
 use Rattle.laws.specs.Stores.{filled}
-use Rattle.tables.specs.declared.Task.{Task}
 use Rattle.tables.specs.declared.Table.{Table}
 use Rattle.tables.specs.Rules.{noTask, taskFault}
 use Rattle.tables.proofs.Worked.{Row, rowOf, pairs, rows}
@@ -15,7 +14,7 @@ use Rattle.records.specs.Closing.{closed}
 use Rattle.records.specs.Opening.{expired, opened}
 use Rattle.soundness.specs.Sound.{soundHolds}
 use Rattle.states.specs.declared.State.{State}
-use Rattle.states.specs.State.{recordAt, freshState}
+use Rattle.states.specs.State.{freshState}
 use Rattle.states.specs.Sound.{eachHolds, stateHolds}
 use Rattle.states.specs.Choice.{bestTo}
 use Rattle.engine.specs.declared.Answer.{Answer}
@@ -25,9 +24,9 @@ use Rattle.engine.specs.Apply.{ticked, releasedAt, completedAt, byKind, 
 -- tasks 0: (2,4,4,(1,2)) and 1: (3,7,8,(1,3))
 abbrev pub listed : Table
 listed =
-    record
-    { count = 2
-    ; tasks = record { c = 2; d = 4; t = 4; m = 1; k = 2 } ∷ record { c = 3; d = 7; t = 8; m = 1; k = 3 } ∷ replicate 14 noTask
+    record {
+      count = 2;
+      tasks = record { c = 2; d = 4; t = 4; m = 1; k = 2 } ∷ record { c = 3; d = 7; t = 8; m = 1; k = 3 } ∷ replicate 14 noTask;
     }
 
 abbrev release : ℕ → ℕ → Event

@@ -2,3 +2,4 @@
 pub mod Steps
 pub mod Apply
 pub mod Answers
+pub mod Log

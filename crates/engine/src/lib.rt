@@ -1,5 +1,7 @@
 // Events applied to a state, by value: the answer, and the state beside it.
+mod acting;
 pub mod apply;
+pub mod log;
 mod steps;
 
 use states::State;

@@ -1,10 +1,10 @@
--- `apply::act` meets its contract: the event's own refusal first.
+-- `acting::act` meets its contract: the event's own refusal first.
 use mathlib.Core.Path.{sym, _∙_}
 use borrow.Author.Tests.{eq-eqb, ne-eqb}
 use borrow.Author.Needs.{needs}
 use Rattle.engine.specs.Apply.{acted}
-use Rattle.engine.proofs.apply.act.Statement.{statement}
-use Rattle.engine.proofs.apply.act.Tie as tie
+use Rattle.engine.proofs.acting.act.Statement.{statement}
+use Rattle.engine.proofs.acting.act.Tie as tie
 
 judge-requires : tie.Need-judge-requires
 judge-requires c κs = search needs

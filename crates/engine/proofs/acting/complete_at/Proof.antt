@@ -1,4 +1,4 @@
--- `apply::complete_at` meets its contract: 10, then 12 told of the task's record after step 1, then steps 1 and 3.
+-- `acting::complete_at` meets its contract: 10, then 12 told of the task's record after step 1, then steps 1 and 3.
 use mathlib.Core.Path.{sym, ap, _∙_}
 use mathlib.Core.Bool.{true}
 use borrow.Author.Tests.{le-leb, lt-leb}
@@ -7,8 +7,8 @@ use Rattle.records.specs.declared.Record.{Record}
 use Rattle.records.specs.Closing.{closed}
 use Rattle.engine.specs.Steps.{isOpen}
 use Rattle.engine.specs.Apply.{completedAt}
-use Rattle.engine.proofs.apply.complete_at.Statement.{statement}
-use Rattle.engine.proofs.apply.complete_at.Tie as tie
+use Rattle.engine.proofs.acting.complete_at.Statement.{statement}
+use Rattle.engine.proofs.acting.complete_at.Tie as tie
 
 refuse-requires : tie.Need-refuse-requires
 refuse-requires c κs = search needs

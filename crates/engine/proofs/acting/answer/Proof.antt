@@ -1,12 +1,12 @@
--- `apply::answer` meets its contract: what is chosen stands at one of the 16 places.
+-- `acting::answer` meets its contract: what is chosen stands at one of the 16 places.
 use Prim.Native.Nat.{_<_, min}
 use mathlib.Core.Path.{sym, ap, _∙_}
 use native.Mathlib.Omega.{arith}
 use borrow.Author.Needs.{needs}
 use Rattle.states.specs.declared.Best.{Best}
 use Rattle.states.proofs.Least.{found-below}
-use Rattle.engine.proofs.apply.answer.Statement.{statement}
-use Rattle.engine.proofs.apply.answer.Tie as tie
+use Rattle.engine.proofs.acting.answer.Statement.{statement}
+use Rattle.engine.proofs.acting.answer.Tie as tie
 
 within : (c : tie.Then1) → c .before .choose .result .at < 16
 within c =

@@ -1,10 +1,10 @@
--- `apply::by_kind` meets its contract: `byKind` goes by the same tests.
+-- `acting::by_kind` meets its contract: `byKind` goes by the same tests.
 use mathlib.Core.Path.{_∙_}
 use borrow.Author.Tests.{eq-eqb, ne-eqb}
 use borrow.Author.Needs.{needs}
 use Rattle.engine.specs.Apply.{byKind}
-use Rattle.engine.proofs.apply.by_kind.Statement.{statement}
-use Rattle.engine.proofs.apply.by_kind.Tie as tie
+use Rattle.engine.proofs.acting.by_kind.Statement.{statement}
+use Rattle.engine.proofs.acting.by_kind.Tie as tie
 
 tick-requires : tie.Need-tick-requires
 tick-requires c κs = search needs

@@ -1,7 +1,7 @@
--- `apply::accept` meets its contract.
+-- `acting::accept` meets its contract.
 use borrow.Author.Needs.{needs}
-use Rattle.engine.proofs.apply.accept.Statement.{statement}
-use Rattle.engine.proofs.apply.accept.Tie as tie
+use Rattle.engine.proofs.acting.accept.Statement.{statement}
+use Rattle.engine.proofs.acting.accept.Tie as tie
 
 answer-requires : tie.Need-answer-requires
 answer-requires c κs = search needs

@@ -1,9 +1,9 @@
--- `apply::tick` meets its contract.
+-- `acting::tick` meets its contract.
 use mathlib.Core.Path.{_∙_}
 use borrow.Author.Needs.{needs}
 use Rattle.engine.specs.Apply.{ticked}
-use Rattle.engine.proofs.apply.tick.Statement.{statement}
-use Rattle.engine.proofs.apply.tick.Tie as tie
+use Rattle.engine.proofs.acting.tick.Statement.{statement}
+use Rattle.engine.proofs.acting.tick.Tie as tie
 
 expire-all-requires : tie.Need-expire-all-requires
 expire-all-requires c κs = search needs

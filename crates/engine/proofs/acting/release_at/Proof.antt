@@ -1,12 +1,12 @@
--- `apply::release_at` meets its contract: 10, then 11 told of the task's record after step 1, then steps 1 and 2.
+-- `acting::release_at` meets its contract: 10, then 11 told of the task's record after step 1, then steps 1 and 2.
 use mathlib.Core.Path.{sym, ap, _∙_}
 use borrow.Author.Tests.{le-leb, lt-leb}
 use borrow.Author.Needs.{needs}
 use Rattle.records.specs.declared.Record.{Record}
 use Rattle.engine.specs.Steps.{tooSoon, reopened}
 use Rattle.engine.specs.Apply.{releasedAt}
-use Rattle.engine.proofs.apply.release_at.Statement.{statement}
-use Rattle.engine.proofs.apply.release_at.Tie as tie
+use Rattle.engine.proofs.acting.release_at.Statement.{statement}
+use Rattle.engine.proofs.acting.release_at.Tie as tie
 
 refuse-requires : tie.Need-refuse-requires
 refuse-requires c κs = search needs

@@ -1,10 +1,10 @@
--- `apply::in_time` meets its contract: `timed` goes by the same tests.
+-- `acting::in_time` meets its contract: `timed` goes by the same tests.
 use mathlib.Core.Path.{_∙_}
 use borrow.Author.Tests.{lt-ltb, le-ltb}
 use borrow.Author.Needs.{needs}
 use Rattle.engine.specs.Apply.{timed}
-use Rattle.engine.proofs.apply.in_time.Statement.{statement}
-use Rattle.engine.proofs.apply.in_time.Tie as tie
+use Rattle.engine.proofs.acting.in_time.Statement.{statement}
+use Rattle.engine.proofs.acting.in_time.Tie as tie
 
 refuse-requires : tie.Need-refuse-requires
 refuse-requires c κs = search needs
