@@ -1,0 +1,103 @@
+// One table and one log: the answer to each event, and the tasks at the end.
+use super::print::number;
+use super::print::text;
+use engine::Answer;
+use engine::apply::apply;
+use events::Reading;
+use records::Record;
+use records::closing::window;
+use states::State;
+use states::fresh::start;
+
+fn answer(said: Answer) {
+    match said {
+        Answer::Run {
+            position: p,
+            class: c,
+        } => {
+            text(b" run ");
+            number(p as u64);
+            text(b" class ");
+            number(c as u64);
+        }
+        Answer::Idle => text(b" idle"),
+        Answer::Refused(n) => {
+            text(b" refused ");
+            number(n as u64);
+        }
+    }
+}
+
+fn line(said: Answer) {
+    answer(said);
+    text(b"\n");
+}
+
+// The events one by one.
+fn events_on(first: State, log: &[u8]) -> State {
+    let n = events::count(log);
+    let mut state = first;
+    for i in 0..n {
+        let Reading::Event(event) = events::event_at(log, i) else {
+            return state;
+        };
+        let done = apply(state, event);
+        let said = done.answer;
+        line(said);
+        state = done.state;
+    }
+    state
+}
+
+fn task(record: Record) {
+    text(b" met ");
+    number(record.met);
+    text(b" missed ");
+    number(record.missed);
+    if record.live {
+        text(b" open 1");
+    } else {
+        text(b" open 0");
+    }
+    text(b" class ");
+    number(levels::class(record.level) as u64);
+    text(b" run ");
+    number(record.run as u64);
+    text(b" window ");
+    number(window(record) as u64);
+    text(b" broken ");
+    number(record.broken);
+    text(b"\n");
+}
+
+fn tasks(state: State) {
+    let count = state.count;
+    if 16 < count {
+        return;
+    }
+    let mut i: usize = 0;
+    while i < count {
+        task(state.records[i]);
+        i += 1;
+    }
+}
+
+// The log as a whole ends as its events one by one do.
+fn whole(state: State, log: &[u8]) {
+    text(b"last");
+    let ran = engine::log::run(state, log);
+    let said = ran.answer;
+    answer(said);
+    text(b" clock ");
+    number(ran.state.clock);
+    text(b"\n");
+}
+
+pub fn one(table: &[u8], log: &[u8]) {
+    let read = table_bytes::reading::read(table);
+    let begun = start(read.table);
+    let state = begun.state;
+    let last = events_on(state, log);
+    tasks(last);
+    whole(state, log);
+}
