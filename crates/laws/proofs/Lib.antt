@@ -4,4 +4,5 @@ pub mod Bytes
 pub mod Numbers
 pub mod Parts
 pub mod Stores
+pub mod Sums
 pub mod Tests

@@ -30,6 +30,12 @@ module _ {A : Type 0} (f : ℕ → A) (l : List A) (d : A) where
   filled-past (suc n) i h =
       getD-set-other (filled f n l) n i (f n) d (λ q. omega arith) ∙ filled-past n i (omega arith)
 
+-- a row is filled by what f is below n alone
+pub filled-same : {A : Type 0} (f g : ℕ → A) (l : List A) (n : ℕ) → ((i : ℕ) → i < n → f i ≡ g i) → filled f n l ≡ filled g n l
+unfolding filled
+filled-same f g l zero h = refl
+filled-same f g l (suc n) h = rw (filled-same f g l n (λ i p. h i (omega arith)), h n (omega arith))
+
 module _ {A : Type 0} (s l : List A) (d : A) where
   -- filled with another list's elements, to the end, a row of its length is that list
   pub filled-whole : length s ≡ length l → filled (λ i. getD s i d) (length s) l ≡ s

@@ -2,4 +2,5 @@
 pub mod Bytes
 pub mod Numbers
 pub mod Stores
+pub mod Sums
 pub mod Tests

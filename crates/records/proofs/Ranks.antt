@@ -4,39 +4,14 @@ use mathlib.Core.Path.{_≡_, sym, _∙_}
 use mathlib.Core.Logic.{_⊎_, inl, inr, _↔_}
 use native.Mathlib.Decide.{ℕ-discrete, decLt}
 use native.Mathlib.Omega.{arith}
-use Rattle.tables.specs.declared.Task.{Task}
 use Rattle.tables.specs.Order.{Higher}
+use Rattle.tables.proofs.Order.{higher-once, higher-some, higher-on}
 use Rattle.records.specs.declared.Record.{Record}
 use Rattle.records.specs.Rank.{Above, keyOf}
 
 -- smaller key, or equal keys and smaller position
 abbrev pub Before : Record → ℕ → Record → ℕ → Type 0
 Before r i q j = (keyOf r < keyOf q) ⊎ ((keyOf r ≡ keyOf q) × (i < j))
-
--- ---- tasks, by D and position
-
-pub higher-once : (a : Task) (i : ℕ) (b : Task) (j : ℕ) → Higher a i b j → Higher b j a i → ⊥
-higher-once a i b j (inl p) (inl q) = omega arith
-higher-once a i b j (inl p) (inr q) = omega (arith, q .0)
-higher-once a i b j (inr p) (inl q) = omega (arith, p .0)
-higher-once a i b j (inr p) (inr q) = omega (arith, p .1, q .1)
-
-pub higher-some : (a : Task) (i : ℕ) (b : Task) (j : ℕ) → (i ≡ j → ⊥) → Higher a i b j ⊎ Higher b j a i
-higher-some a i b j n = go (decLt (a .d) (b .d)) (ℕ-discrete (a .d) (b .d)) (decLt i j)
-  where
-    go : Dec (a .d < b .d) → Dec (a .d ≡ b .d) → Dec (i < j) → Higher a i b j ⊎ Higher b j a i
-    go (yes p) e l = inl (inl p)
-    go (no p) (no e) l = inr (inl (omega arith))
-    go (no p) (yes e) (yes l) = inl (inr (e, l))
-    go (no p) (yes e) (no l) = inr (inr (sym e, omega arith))
-
-pub higher-on : (a : Task) (i : ℕ) (b : Task) (j : ℕ) (c : Task) (k : ℕ) → Higher a i b j → Higher b j c k → Higher a i c k
-higher-on a i b j c k (inl p) (inl q) = inl (omega arith)
-higher-on a i b j c k (inl p) (inr q) = inl (omega (arith, q .0))
-higher-on a i b j c k (inr p) (inl q) = inl (omega (arith, p .0))
-higher-on a i b j c k (inr p) (inr q) = inr (p .0 ∙ q .0, omega (arith, p .1, q .1))
-
--- ---- jobs, by class first
 
 module _ (r : Record) (i : ℕ) (q : Record) (j : ℕ) where
   -- never both

@@ -1,6 +1,7 @@
 -- What is shown of the table beside the functions' contracts.
 pub mod Exactly
 pub mod Faults
+pub mod Order
 pub mod Paper
 pub mod Ruling
 pub mod Worked

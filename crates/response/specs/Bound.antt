@@ -1,0 +1,17 @@
+-- Document 01, "Response bound": the bound of task k is the smallest R from 1 to D of k that is at least the demand at R.
+use Prim.Native.Nat.{ℕ}
+use Rattle.tables.specs.declared.Table.{Table}
+use Rattle.response.specs.declared.Found.{Found}
+use Rattle.response.specs.Above.{taskAt}
+use Rattle.response.specs.Demand.{demand}
+use Rattle.response.specs.Fits.{Smallest, NoneFits, firstFit}
+
+abbrev pub IsBound : Table → ℕ → ℕ → Type 0
+IsBound t k r = Smallest (demand t k) (taskAt t k .d) r
+
+abbrev pub NoBound : Table → ℕ → Type 0
+NoBound t k = NoneFits (demand t k) (taskAt t k .d)
+
+-- the same, found
+abbrev pub boundOf : Table → ℕ → Found
+boundOf t k = firstFit (demand t k) (taskAt t k .d)
