@@ -1,0 +1,21 @@
+-- The table of a sound state obeys the rules, so that after 15 no refusal of a table is left: each record's task does.
+use Prim.Native.Nat.{ℕ, _<_}
+use mathlib.Core.Path.{_≡_, ap, _∙_}
+use lib.ListN.{getD, replicate}
+use Rattle.laws.proofs.Stores.{filled-below}
+use Rattle.tables.specs.declared.Answer.the-variants.{Accepted}
+use Rattle.tables.specs.declared.Task.{Task}
+use Rattle.tables.specs.Rules.{taskFault, noTask}
+use Rattle.tables.specs.Judging.{judged}
+use Rattle.tables.proofs.Exactly.{judged-accepted}
+use Rattle.states.specs.declared.State.{State}
+use Rattle.states.specs.State.{recordAt}
+use Rattle.states.specs.Sound.{StateSound}
+use Rattle.state_bounds.specs.Asked.{tableIn}
+
+pub table-accepted : (s : State) → StateSound s → judged (tableIn s) ≡ Accepted
+table-accepted s p =
+    judged-accepted (tableIn s) .1 (
+      p .counted,
+      λ i h. ap taskFault (filled-below (λ j. recordAt s j .task) (replicate 16 noTask) noTask (s .count) i (p .counted .most) h) ∙ p .each i h .ruled,
+    )
