@@ -1,4 +1,5 @@
 -- What is shown of the engine beside the functions' contracts.
+pub mod Exactly
 pub mod Frame
 pub mod Kept
 pub mod Places

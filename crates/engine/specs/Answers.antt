@@ -1,13 +1,7 @@
--- Document 01's number and values for each case of an event's answer.
-use Prim.Native.Nat.{ℕ, _+_}
+-- Document 01's number for each case of an event's answer; `Run` carries the chosen position and that job's class.
+use Prim.Native.Nat.{ℕ}
 use Rattle.engine.specs.declared.Answer.{Answer}
 use Rattle.engine.specs.declared.Answer.the-variants.{Run, Idle, Refused}
-
--- the rig's code: 0 to 15 the chosen task, 16 none, 32 + N for refusal N
-abbrev pub codeOf : Answer → ℕ
-codeOf (Run p c) = p
-codeOf Idle = 16
-codeOf (Refused n) = 32 + n
 
 -- the refusal's number, 0 where the event is accepted
 abbrev pub numberOf : Answer → ℕ

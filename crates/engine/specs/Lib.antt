@@ -2,4 +2,5 @@
 pub mod Steps
 pub mod Apply
 pub mod Answers
+pub mod Verdict
 pub mod Log

@@ -9,6 +9,7 @@ use Rattle.table_bytes.specs.declared.Row.{Row}
 use Rattle.table_bytes.specs.declared.Row.the-variants as Row
 use Rattle.tables.specs.declared.Task.{Task}
 use Rattle.tables.specs.Rules.{taskFault}
+use Rattle.table_bytes.specs.Answers.{rowNumber}
 use Rattle.table_bytes.specs.Reading.{Marked, taskOf, recordFault, rowBy, readRow}
 
 module _ (s : List ℕ) where
@@ -56,3 +57,12 @@ module _ (s : List ℕ) where
       go : (y : ℕ) → recordFault s ≡ y → rowBy y (taskOf s) ≡ Row.Refused x → (recordFault s ≡ x) × (x ≡ 0 → ⊥)
       go zero q r = let z : _≡_ {A = ℕ} 0 1 = cc in absurd (omega arith)
       go (suc y) q r = let w : suc y ≡ x = cc in (q ∙ w, λ z. omega arith)
+
+  -- the number that a record is answered by is its fault
+  pub row-number : rowNumber (readRow s) ≡ recordFault s
+  unfolding readRow
+  row-number = go (recordFault s)
+    where
+      go : (y : ℕ) → rowNumber (rowBy y (taskOf s)) ≡ y
+      go zero = refl
+      go (suc y) = refl
