@@ -25,7 +25,7 @@ use Rattle.engine.proofs.Places.{places, expired-at, stored-here, store
 -- ---- one record
 
 -- a release that is not too soon
-spaced-by : (r : Record) (t : ℕ) → tooSoon r t ≡ false → (r .released ≡ 0 → ⊥) → r .last + r .task .t ≤ t
+pub spaced-by : (r : Record) (t : ℕ) → tooSoon r t ≡ false → (r .released ≡ 0 → ⊥) → r .last + r .task .t ≤ t
 spaced-by r t e n = ltb-false t (r .last + r .task .t) (rw (ne-eqb (r .released) 0 n) at e)
 
 reopened-sound : (r : Record) (t : ℕ) → Sound r t → t ≤ limit → tooSoon r t ≡ false → Sound (reopened r t) t

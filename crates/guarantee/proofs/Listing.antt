@@ -1,0 +1,114 @@
+-- The guarantee is not empty: document 01's listing events, as far as they obey the premise, are an instance, and so is a run whose task misses
+-- m times outside the required class. By computation.
+use Prim.Native.Nat.{ℕ}
+use mathlib.Core.Path.{_≡_, refl}
+use mathlib.Core.Bool.{Bool, true, false}
+use mathlib.Core.List.{List, [], _∷_}
+use native.Mathlib.Omega.{arith}
+use lib.Count.{ones, onesIn}
+use lib.Dec.{lit<}
+use lib.ListN.{replicate}
+use Rattle.laws.specs.Stores.{filled}
+use Rattle.laws.specs.Sums.{total}
+use Rattle.events.specs.declared.Event.{Event}
+use Rattle.events.specs.Event.{zeroes, faultOf}
+use Rattle.tables.specs.declared.Task.{Task}
+use Rattle.tables.specs.declared.Table.{Table}
+use Rattle.tables.specs.declared.Answer.the-variants.{Accepted}
+use Rattle.tables.specs.Rules.{taskFault, noTask}
+use Rattle.tables.specs.Judging.{firstFault, judged}
+use Rattle.records.specs.Closing.{closed}
+use Rattle.records.specs.Opening.{expired, opened}
+use Rattle.records.specs.Window.{windowOf}
+use Rattle.soundness.specs.Sound.{soundHolds}
+use Rattle.states.specs.Sound.{eachHolds, stateHolds}
+use Rattle.states.specs.Choice.{bestTo}
+use Rattle.response.specs.Fits.{firstFit}
+use Rattle.response.specs.Demand.{demand}
+use Rattle.bounds.specs.Asked.{boundCell, allAnswer}
+use Rattle.engine.specs.Apply.{ticked, releasedAt, completedAt, byKind, timed, acted, applied}
+use Rattle.guarantee.specs.History.{Job, stateAfter, recordAfter, jobsOf}
+use Rattle.guarantee.specs.ChosenTime.{standing, chosenTime}
+use Rattle.guarantee.specs.Premise.{Premise}
+use Rattle.guarantee.specs.Guarantee.{Promise}
+use Rattle.guarantee.proofs.Trying.{shortTo, obeysAt, premise-by}
+use Rattle.guarantee.proofs.Theorem.{guarantee}
+
+abbrev pub taskOf : ℕ → ℕ → ℕ → ℕ → ℕ → Task
+taskOf c d t m k = record { c = c; d = d; t = t; m = m; k = k }
+
+abbrev pub releases : ℕ → ℕ → Event
+releases task time = record { kind = 1; task = task; job = 0; time = time }
+
+abbrev pub finishes : ℕ → ℕ → ℕ → Event
+finishes task job time = record { kind = 2; task = task; job = job; time = time }
+
+abbrev pub ticks : ℕ → Event
+ticks time = record { kind = 0; task = 0; job = 0; time = time }
+
+abbrev pub jobOf : ℕ → ℕ → ℕ → ℕ → Bool → Job
+jobOf number release class closing met = record { number = number; release = release; class = class; closing = closing; met = met }
+
+-- document 01's table: bounds 2 and 7
+abbrev pub listed : Table
+listed = record { count = 2; tasks = taskOf 2 4 4 1 2 ∷ taskOf 3 7 8 1 3 ∷ replicate 14 noTask }
+
+listed-bounds : (allAnswer listed 16 ≡ Accepted) × (boundCell listed 0 ≡ 2) × (boundCell listed 1 ≡ 7)
+unfolding allAnswer judged firstFault taskFault firstFit demand total
+listed-bounds = (refl, refl, refl)
+
+-- its first seven events, newest first; the fourth is refused 11 and the seventh 12
+abbrev pub seven : List Event
+seven =
+    finishes 0 1 6 ∷ finishes 1 1 5 ∷ releases 0 4 ∷ releases 0 3 ∷ finishes 0 1 2 ∷ releases 1 0 ∷ releases 0 0 ∷ []
+
+pub seven-obey : Premise listed seven
+unfolding obeysAt shortTo chosenTime standing stateAfter total filled applied acted timed byKind ticked releasedAt completedAt stateHolds eachHolds soundHolds taskFault closed expired opened bestTo zeroes faultOf ones onesIn
+seven-obey = premise-by listed seven refl
+
+pub seven-jobs : (jobsOf listed seven 0 ≡ jobOf 1 0 0 2 true ∷ []) × (jobsOf listed seven 1 ≡ jobOf 1 0 0 5 true ∷ [])
+unfolding jobsOf stateAfter filled applied acted timed byKind ticked releasedAt completedAt stateHolds eachHolds soundHolds taskFault closed expired opened bestTo zeroes faultOf ones onesIn
+seven-jobs = (refl, refl)
+
+pub seven-kept : Promise listed seven 0 × Promise listed seven 1
+seven-kept = (guarantee listed 16 (listed-bounds .0) seven seven-obey 0 (lit< tt), guarantee listed 16 (listed-bounds .0) seven seven-obey 1 (lit< tt))
+
+-- the eighth, the tick at 9, does not obey it: job 2 of task 0 is open and has had its 2 ticks at 7
+pub eighth-late : Premise listed (ticks 9 ∷ seven) → ⊥
+unfolding Premise chosenTime standing stateAfter total filled applied acted timed byKind ticked releasedAt completedAt stateHolds eachHolds soundHolds taskFault closed expired opened bestTo zeroes faultOf ones onesIn
+eighth-late p = omega (arith, p .1 refl 0 7 (lit< tt) refl (omega arith) .not-after)
+
+-- a task of (2,3) beside a hard one: it misses two jobs in a row in class 1, both times while the hard task has the processor
+abbrev pub shared : Table
+shared = record { count = 2; tasks = taskOf 1 2 4 2 3 ∷ taskOf 3 8 8 0 1 ∷ replicate 14 noTask }
+
+shared-bounds : (allAnswer shared 16 ≡ Accepted) × (boundCell shared 0 ≡ 1) × (boundCell shared 1 ≡ 4)
+unfolding allAnswer judged firstFault taskFault firstFit demand total
+shared-bounds = (refl, refl, refl)
+
+abbrev pub twice : List Event
+twice =
+    finishes 0 4 21
+    ∷ releases 0 20
+    ∷ finishes 1 2 15
+    ∷ releases 0 12
+    ∷ releases 1 12
+    ∷ finishes 1 1 7
+    ∷ releases 0 4
+    ∷ releases 1 4
+    ∷ finishes 0 1 1
+    ∷ releases 0 0
+    ∷ []
+
+pub twice-obey : Premise shared twice
+unfolding obeysAt shortTo chosenTime standing stateAfter total filled applied acted timed byKind ticked releasedAt completedAt stateHolds eachHolds soundHolds taskFault closed expired opened bestTo zeroes faultOf ones onesIn
+twice-obey = premise-by shared twice refl
+
+pub twice-jobs : jobsOf shared twice 0 ≡ jobOf 4 20 0 21 true ∷ jobOf 3 12 1 15 false ∷ jobOf 2 4 1 7 false ∷ jobOf 1 0 0 1 true ∷ []
+unfolding jobsOf stateAfter filled applied acted timed byKind ticked releasedAt completedAt stateHolds eachHolds soundHolds taskFault closed expired opened bestTo zeroes faultOf ones onesIn
+twice-jobs = refl
+
+-- the window holds m misses, and is kept
+pub twice-window : (windowOf (recordAfter shared twice 0) ≡ 2) × Promise shared twice 0
+unfolding stateAfter filled applied acted timed byKind ticked releasedAt completedAt stateHolds eachHolds soundHolds taskFault closed expired opened bestTo zeroes faultOf ones onesIn
+twice-window = (refl, guarantee shared 16 (shared-bounds .0) twice twice-obey 0 (lit< tt))

@@ -1,0 +1,110 @@
+-- Every state that a run reaches is sound, with the table's rows in its records: since every event keeps that.
+use Prim.Native.Nat.{ℕ, _≤_, _<_}
+use mathlib.Core.Path.{_≡_, refl, _∙_}
+use mathlib.Core.List.{List, [], _∷_}
+use native.Mathlib.Nat.{le-refl}
+use native.Mathlib.Omega.{arith}
+use lib.ListN.{length, getD, replicate, length-set}
+use Rattle.laws.proofs.Stores.{length-filled, filled-below, filled-past}
+use Rattle.events.specs.declared.Event.{Event}
+use Rattle.tables.specs.declared.Table.{Table}
+use Rattle.tables.specs.declared.Answer.the-variants.{Accepted}
+use Rattle.tables.specs.Judging.{judged}
+use Rattle.tables.proofs.Exactly.{judged-accepted}
+use Rattle.records.specs.Opening.{fresh, noRecord}
+use Rattle.soundness.proofs.Kept.{fresh-sound}
+use Rattle.states.specs.declared.State.{State}
+use Rattle.states.specs.State.{recordAt, freshState}
+use Rattle.states.specs.Sound.{StateSound}
+use Rattle.response.specs.Above.{taskAt}
+use Rattle.engine.specs.declared.Applied.{Applied}
+use Rattle.engine.specs.Apply.{acted, applied}
+use Rattle.engine.proofs.Frame.{count-stays, past-stays, row-stays}
+use Rattle.engine.proofs.Kept.{applied-sound}
+use Rattle.engine.proofs.Places.{expired-length}
+use Rattle.guarantee.specs.History.{stateAfter}
+use Rattle.guarantee.proofs.Taken.{Took, refusal, tick, release, completion, acts, took}
+
+-- what an event keeps, refused or not
+pub record Keeps (s q : State) : Type 0 where
+  pub sound : StateSound q
+  pub count : q .count ≡ s .count
+  pub onward : s .clock ≤ q .clock
+  pub places : length (q .records) ≡ length (s .records)
+  pub tasks : (i : ℕ) → i < s .count → recordAt q i .task ≡ recordAt s i .task
+  pub past : (i : ℕ) → s .count ≤ i → recordAt q i ≡ recordAt s i
+
+module _ (s : State) (e : Event) (g : StateSound s) where
+  onward : {a : Applied} → Took s e a → s .clock ≤ a .state .clock
+  onward (refusal n) = le-refl (s .clock)
+  onward (tick t k) = t .onward
+  onward (release t k h o) = t .onward
+  onward (completion t k h o) = t .onward
+
+  as-long : {a : Applied} → Took s e a → length (a .state .records) ≡ length (s .records)
+  as-long (refusal n) = refl
+  as-long (tick t k) = expired-length s (e .time)
+  as-long (release t k h o) = simp length-set (expired-length s (e .time))
+  as-long (completion t k h o) = simp length-set (expired-length s (e .time))
+
+  pub event-keeps : Keeps s (applied s e .state)
+  event-keeps =
+      record {
+        sound = applied-sound s g e;
+        count = count-stays s e;
+        onward = onward (took s e g);
+        places = as-long (took s e g);
+        tasks = row-stays s e g;
+        past = past-stays s e;
+      }
+
+-- what holds of every state that a run reaches
+pub record Reached (t : Table) (s : State) : Type 0 where
+  pub sound : StateSound s
+  pub count : s .count ≡ t .count
+  pub places : length (s .records) ≡ 16
+  pub tasks : (i : ℕ) → i < t .count → recordAt s i .task ≡ taskAt t i
+  pub past : (i : ℕ) → t .count ≤ i → recordAt s i ≡ getD (replicate 16 noRecord) i noRecord
+
+module _ (t : Table) (good : judged t ≡ Accepted) where
+  pub room-for : (s : State) → Reached t s → s .count ≤ length (s .records)
+  room-for s r = omega (arith, r .places, r .sound .counted .most)
+
+  pub fresh-at : (i : ℕ) → i < t .count → recordAt (freshState t) i ≡ fresh (taskAt t i)
+  fresh-at i h =
+      filled-below (λ (j : ℕ). fresh (taskAt t j)) (replicate 16 noRecord) noRecord (t .count) i
+      (omega (arith, judged-accepted t .0 good .0 .most)) h
+
+  pub fresh-reached : Reached t (freshState t)
+  fresh-reached =
+      let j = judged-accepted t .0 good in
+      record {
+        sound =
+            record {
+              counted = j .0;
+              clock = omega arith;
+              each = λ i h. rw (fresh-at i h) (fresh-sound (taskAt t i) (j .1 i h));
+            };
+        count = refl;
+        places = length-filled (λ (i : ℕ). fresh (taskAt t i)) (replicate 16 noRecord) noRecord (t .count);
+        tasks = λ i h. rw (fresh-at i h);
+        past = λ i h. filled-past (λ (j : ℕ). fresh (taskAt t j)) (replicate 16 noRecord) noRecord (t .count) i h;
+      }
+
+  pub reached : (es : List Event) → Reached t (stateAfter t es)
+  unfolding stateAfter
+  reached [] = fresh-reached
+  reached (e ∷ es) =
+      let r = reached es in
+      let k = event-keeps (stateAfter t es) e (r .sound) in
+      record {
+        sound = k .sound;
+        count = k .count ∙ r .count;
+        places = k .places ∙ r .places;
+        tasks = λ i h. k .tasks i (rw (r .count) h) ∙ r .tasks i h;
+        past = λ i h. k .past i (rw (r .count) h) ∙ r .past i h;
+      }
+
+  -- along a run no event is refused 15
+  pub acted-on : (es : List Event) (e : Event) → applied (stateAfter t es) e ≡ acted (stateAfter t es) e
+  acted-on es e = acts (stateAfter t es) e (reached es .sound)

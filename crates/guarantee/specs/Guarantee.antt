@@ -1,0 +1,31 @@
+-- Demand 3, over the engine's own classes, choices and bounds.
+use Prim.Native.Nat.{ℕ, _+_, _≤_, _<_}
+use mathlib.Core.Path.{_≡_}
+use mathlib.Core.Bool.{true}
+use mathlib.Core.List.{List, [], _∷_}
+use Rattle.events.specs.declared.Event.{Event}
+use Rattle.tables.specs.declared.Table.{Table}
+use Rattle.tables.specs.declared.Answer.the-variants.{Accepted}
+use Rattle.windows.specs.Bound.{Kept}
+use Rattle.response.specs.Above.{taskAt}
+use Rattle.bounds.specs.Asked.{allAnswer, boundCell}
+use Rattle.guarantee.specs.History.{Job, recordAfter, jobsOf, outcomesOf}
+use Rattle.guarantee.specs.Premise.{Premise}
+
+-- a closed job that opened in class 0 was met, at most the bound after its release
+abbrev pub Good : ℕ → Job → Type 0
+Good bound j = j .class ≡ 0 → (j .met ≡ true) × (j .closing ≤ j .release + bound)
+
+abbrev pub Each : (Job → Type 0) → List Job → Type 0
+Each P [] = Unit
+Each P (j ∷ jobs) = P j × Each P jobs
+
+-- of task i: its closed jobs, and any K of them in a row, its window number and `broken`
+pub record Promise (t : Table) (es : List Event) (i : ℕ) : Type 0 where
+  pub required : Each (Good (boundCell t i)) (jobsOf t es i)
+  pub windows : Kept (taskAt t i) (outcomesOf (jobsOf t es i)) (recordAfter t es i)
+
+-- for every table whose analysis gives all bounds and every run that obeys the premise, of every task
+abbrev pub Guarantee : Type 0
+Guarantee =
+    (t : Table) (room : ℕ) → allAnswer t room ≡ Accepted → (es : List Event) → Premise t es → (i : ℕ) → i < t .count → Promise t es i

@@ -1,0 +1,24 @@
+-- Document 01, "Chosen time": demand 3's premise. Once an open job's chosen time reaches C at tick x, no event of any kind after x and no
+-- release at x is accepted while that job is open, that is, open in the state in which the event arrives.
+use Prim.Native.Nat.{ℕ, _≤_, _<_}
+use mathlib.Core.Path.{_≡_}
+use mathlib.Core.Bool.{true}
+use mathlib.Core.List.{List, [], _∷_}
+use Rattle.events.specs.declared.Event.{Event}
+use Rattle.tables.specs.declared.Table.{Table}
+use Rattle.guarantee.specs.History.{recordAfter, isAccepted}
+use Rattle.guarantee.specs.ChosenTime.{openTime}
+
+-- what an accepted event owes to an open job whose chosen time has reached C at x
+pub record Waits (e : Event) (x : ℕ) : Type 0 where
+  pub not-after : e .time ≤ x
+  pub no-release : e .kind ≡ 1 → e .time < x
+
+abbrev pub Timely : Table → List Event → Event → Type 0
+Timely t es e =
+    (i x : ℕ) → i < t .count → recordAfter t es i .live ≡ true → recordAfter t es i .task .c ≤ openTime t es i x → Waits e x
+
+-- every accepted event of a run is timely
+unfoldable pub Premise : Table → List Event → Type 0
+Premise t [] = Unit
+Premise t (e ∷ es) = Premise t es × (isAccepted t es e ≡ true → Timely t es e)
