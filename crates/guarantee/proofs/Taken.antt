@@ -9,7 +9,7 @@ use lib.Dec.{eqb, leb, ltb}
 use lib.ListN.{length, getD, set}
 use lib.Seq.{getD-set-same, getD-set-other}
 use Rattle.laws.proofs.Stores.{length-filled, filled-below}
-use Rattle.laws.proofs.Tests.{true-not-false, tells-true}
+use Rattle.laws.proofs.Tests.{true-not-false}
 use Rattle.events.specs.declared.Event.{Event}
 use Rattle.events.specs.Event.{faultOf}
 use Rattle.events.proofs.Rules.{judge-0}
@@ -20,11 +20,11 @@ use Rattle.states.specs.declared.State.{State}
 use Rattle.states.specs.State.{recordAt}
 use Rattle.states.specs.Sound.{limit, StateSound}
 use Rattle.states.specs.Choice.{chosen}
-use Rattle.states.proofs.Sounding.{state-tells}
 use Rattle.engine.specs.declared.Answer.the-variants.{Run, Idle}
 use Rattle.engine.specs.declared.Applied.{Applied}
 use Rattle.engine.specs.Steps.{expiredAll, tooSoon, reopened, isOpen}
 use Rattle.engine.specs.Apply.{answerOf, accepted, refused, ticked, releasedAt, completedAt, byKind, timed, acted, applied}
+use Rattle.engine.proofs.Runs.{sound-acts}
 use Rattle.guarantee.specs.History.{accepts, completes}
 use Rattle.guarantee.proofs.Steps.{is-open}
 use Rattle.guarantee.proofs.Closes.{other-kind, other-task, completed}
@@ -90,8 +90,7 @@ module _ (s : State) (e : Event) where
 
   -- a sound state is never refused 15
   pub acts : StateSound s → applied s e ≡ acted s e
-  unfolding applied
-  acts g = rw (tells-true (state-tells s) g)
+  acts g = sym (sound-acts s e g)
 
   pub took : StateSound s → Took (applied s e)
   took g = rw (acts g) by-rules
