@@ -22,7 +22,7 @@ use Rattle.records.specs.Window.{windowOf}
 use Rattle.soundness.specs.Sound.{Sound}
 use Rattle.soundness.proofs.Kept.{end}
 use Rattle.states.specs.declared.State.{State}
-use Rattle.states.specs.State.{recordAt}
+use Rattle.states.specs.State.{recordAt, freshState}
 use Rattle.states.specs.Sound.{StateSound}
 use Rattle.windows.specs.Outcomes.{mets, misses, lastMisses, firstOver}
 use Rattle.windows.specs.History.{History, start, release, close, openOf}
@@ -75,7 +75,8 @@ module _ (p : Task) (r : Record) (clock : ℕ) (e : Event) (i : ℕ) (jobs : Lis
       gone q is l =
           let s : q .released ≡ r .released = ap (λ (x : Record). x .released) is ∙ closed-same r false .released in
           rw (closes-next r (opened q (e .time)) l (later-number r clock e g short q s))
-          (opens q (closedJob r e i ∷ jobs) s (ap (λ (x : Record). x .live) is ∙ closed-idle r false) (subst (λ (x : Record). History p (outcomesOf (closedJob r e i ∷ jobs)) x) (sym is) (missed-one l m)))
+          (opens q (closedJob r e i ∷ jobs) s (ap (λ (x : Record). x .live) is ∙ closed-idle r false)
+          (subst (λ (x : Record). History p (outcomesOf (closedJob r e i ∷ jobs)) x) (sym is) (missed-one l m)))
 
       by-live : (b : Bool) → r .live ≡ b → History p (outcomesOf (jobsWith r (reopened r (e .time)) e i jobs)) (reopened r (e .time))
       by-live true l = gone (cleared r) (cleared-open r l) l
@@ -134,15 +135,18 @@ closing-open : (r q : Record) → closes r q ≡ true → r .live ≡ true
 closing-open r q e = both-hold (r .live) (cond (q .live) (cond (eqb (q .released) (r .released)) false true) true) e .0
 
 module _ (t : Table) (good : judged t ≡ Accepted) where
+  abbrev from : State
+  from = freshState t
+
   -- the closed jobs of a task, with its record, are a history of that task
-  pub history : (es : List Event) (i : ℕ) → i < t .count → History (taskAt t i) (outcomesOf (jobsOf t es i)) (recordAfter t es i)
+  pub history : (es : List Event) (i : ℕ) → i < t .count → History (taskAt t i) (outcomesOf (jobsOf from es i)) (recordAfter from es i)
   unfolding stateAfter jobsOf
   history [] i h = rw (fresh-at t good i h) start
   history (e ∷ es) i h =
       let r = reached t good es in
-      next-history (stateAfter t es) e (r .sound) (room-for t good (stateAfter t es) r) i (rw (r .count) h) (taskAt t i) (jobsOf t es i) (history es i h)
+      next-history (stateAfter from es) e (r .sound) (room-for t good (stateAfter from es) r) i (rw (r .count) h) (taskAt t i) (jobsOf from es i) (history es i h)
 
-  pub tallied : (es : List Event) (i : ℕ) → i < t .count → Tallied (taskAt t i) (jobsOf t es i) (recordAfter t es i)
+  pub tallied : (es : List Event) (i : ℕ) → i < t .count → Tallied (taskAt t i) (jobsOf from es i) (recordAfter from es i)
   tallied es i h =
       let k = history es i h in
       let c = counts k in
@@ -150,21 +154,21 @@ module _ (t : Table) (good : judged t ≡ Accepted) where
       record { met = c .met; missed = c .missed; released = c .released; window = window-is rules k; broken = broken-is rules k }
 
   -- the class, number and release of a closed job are those that it opened with
-  pub untouched : (es : List Event) (e : Event) (i : ℕ) → i < t .count → recordAfter t es i .live ≡ true
-      → closes (recordAfter t es i) (recordAfter t (e ∷ es) i) ≡ false → recordAfter t (e ∷ es) i ≡ recordAfter t es i
+  pub untouched : (es : List Event) (e : Event) (i : ℕ) → i < t .count → recordAfter from es i .live ≡ true
+      → closes (recordAfter from es i) (recordAfter from (e ∷ es) i) ≡ false → recordAfter from (e ∷ es) i ≡ recordAfter from es i
   unfolding stateAfter
   untouched es e i h l n =
       let r = reached t good es in
-      stays-open (stateAfter t es) e (r .sound) (room-for t good (stateAfter t es) r) i (rw (r .count) h) l n
+      stays-open (stateAfter from es) e (r .sound) (room-for t good (stateAfter from es) r) i (rw (r .count) h) l n
 
-  pub numbered : (es : List Event) (i : ℕ) → i < t .count → Numbered (jobsOf t es i)
+  pub numbered : (es : List Event) (i : ℕ) → i < t .count → Numbered (jobsOf from es i)
   unfolding jobsOf
   numbered [] i h = tt
-  numbered (e ∷ es) i h = go (closes (recordAfter t es i) (recordAfter t (e ∷ es) i)) refl (numbered es i h)
+  numbered (e ∷ es) i h = go (closes (recordAfter from es i) (recordAfter from (e ∷ es) i)) refl (numbered es i h)
     where
-      go : (b : Bool) → closes (recordAfter t es i) (recordAfter t (e ∷ es) i) ≡ b → Numbered (jobsOf t es i)
-          → Numbered (cond b (closedJob (recordAfter t es i) e i ∷ jobsOf t es i) (jobsOf t es i))
+      go : (b : Bool) → closes (recordAfter from es i) (recordAfter from (e ∷ es) i) ≡ b → Numbered (jobsOf from es i)
+          → Numbered (cond b (closedJob (recordAfter from es i) e i ∷ jobsOf from es i) (jobsOf from es i))
       go true q k =
-          let l = closing-open (recordAfter t es i) (recordAfter t (e ∷ es) i) q in
+          let l = closing-open (recordAfter from es i) (recordAfter from (e ∷ es) i) q in
           (omega (arith, rw l at (tallied es i h .released)), k)
       go false q k = k

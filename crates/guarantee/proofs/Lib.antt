@@ -3,6 +3,7 @@ pub mod Steps
 pub mod Closes
 pub mod Taken
 pub mod Reached
+pub mod InOrder
 pub mod Jobs
 pub mod Sums
 pub mod Busy

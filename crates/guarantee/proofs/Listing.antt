@@ -21,6 +21,7 @@ use Rattle.records.specs.Closing.{closed}
 use Rattle.records.specs.Opening.{expired, opened}
 use Rattle.records.specs.Window.{windowOf}
 use Rattle.soundness.specs.Sound.{soundHolds}
+use Rattle.states.specs.State.{freshState}
 use Rattle.states.specs.Sound.{eachHolds, stateHolds}
 use Rattle.states.specs.Choice.{bestTo}
 use Rattle.response.specs.Fits.{firstFit}
@@ -31,6 +32,7 @@ use Rattle.guarantee.specs.History.{Job, stateAfter, recordAfter, jobsOf
 use Rattle.guarantee.specs.ChosenTime.{standing, chosenTime}
 use Rattle.guarantee.specs.Premise.{Premise}
 use Rattle.guarantee.specs.Guarantee.{Promise}
+use Rattle.guarantee.proofs.InOrder.{onto}
 use Rattle.guarantee.proofs.Trying.{shortTo, obeysAt, premise-by}
 use Rattle.guarantee.proofs.Theorem.{guarantee}
 
@@ -62,19 +64,23 @@ abbrev pub seven : List Event
 seven =
     finishes 0 1 6 ∷ finishes 1 1 5 ∷ releases 0 4 ∷ releases 0 3 ∷ finishes 0 1 2 ∷ releases 1 0 ∷ releases 0 0 ∷ []
 
-pub seven-obey : Premise listed seven
-unfolding obeysAt shortTo chosenTime standing stateAfter total filled applied acted timed byKind ticked releasedAt completedAt stateHolds eachHolds soundHolds taskFault closed expired opened bestTo zeroes faultOf ones onesIn
-seven-obey = premise-by listed seven refl
+-- the same in document 01's order
+pub seven-in-order : onto (releases 0 0 ∷ releases 1 0 ∷ finishes 0 1 2 ∷ releases 0 3 ∷ releases 0 4 ∷ finishes 1 1 5 ∷ finishes 0 1 6 ∷ []) [] ≡ seven
+seven-in-order = refl
 
-pub seven-jobs : (jobsOf listed seven 0 ≡ jobOf 1 0 0 2 true ∷ []) × (jobsOf listed seven 1 ≡ jobOf 1 0 0 5 true ∷ [])
+pub seven-obey : Premise (freshState listed) seven
+unfolding obeysAt shortTo chosenTime standing stateAfter total filled applied acted timed byKind ticked releasedAt completedAt stateHolds eachHolds soundHolds taskFault closed expired opened bestTo zeroes faultOf ones onesIn
+seven-obey = premise-by (freshState listed) seven refl
+
+pub seven-jobs : (jobsOf (freshState listed) seven 0 ≡ jobOf 1 0 0 2 true ∷ []) × (jobsOf (freshState listed) seven 1 ≡ jobOf 1 0 0 5 true ∷ [])
 unfolding jobsOf stateAfter filled applied acted timed byKind ticked releasedAt completedAt stateHolds eachHolds soundHolds taskFault closed expired opened bestTo zeroes faultOf ones onesIn
 seven-jobs = (refl, refl)
 
-pub seven-kept : Promise listed seven 0 × Promise listed seven 1
+pub seven-kept : Promise listed (freshState listed) seven 0 × Promise listed (freshState listed) seven 1
 seven-kept = (guarantee listed 16 (listed-bounds .0) seven seven-obey 0 (lit< tt), guarantee listed 16 (listed-bounds .0) seven seven-obey 1 (lit< tt))
 
 -- the eighth, the tick at 9, does not obey it: job 2 of task 0 is open and has had its 2 ticks at 7
-pub eighth-late : Premise listed (ticks 9 ∷ seven) → ⊥
+pub eighth-late : Premise (freshState listed) (ticks 9 ∷ seven) → ⊥
 unfolding Premise chosenTime standing stateAfter total filled applied acted timed byKind ticked releasedAt completedAt stateHolds eachHolds soundHolds taskFault closed expired opened bestTo zeroes faultOf ones onesIn
 eighth-late p = omega (arith, p .1 refl 0 7 (lit< tt) refl (omega arith) .not-after)
 
@@ -100,15 +106,15 @@ twice =
     ∷ releases 0 0
     ∷ []
 
-pub twice-obey : Premise shared twice
+pub twice-obey : Premise (freshState shared) twice
 unfolding obeysAt shortTo chosenTime standing stateAfter total filled applied acted timed byKind ticked releasedAt completedAt stateHolds eachHolds soundHolds taskFault closed expired opened bestTo zeroes faultOf ones onesIn
-twice-obey = premise-by shared twice refl
+twice-obey = premise-by (freshState shared) twice refl
 
-pub twice-jobs : jobsOf shared twice 0 ≡ jobOf 4 20 0 21 true ∷ jobOf 3 12 1 15 false ∷ jobOf 2 4 1 7 false ∷ jobOf 1 0 0 1 true ∷ []
+pub twice-jobs : jobsOf (freshState shared) twice 0 ≡ jobOf 4 20 0 21 true ∷ jobOf 3 12 1 15 false ∷ jobOf 2 4 1 7 false ∷ jobOf 1 0 0 1 true ∷ []
 unfolding jobsOf stateAfter filled applied acted timed byKind ticked releasedAt completedAt stateHolds eachHolds soundHolds taskFault closed expired opened bestTo zeroes faultOf ones onesIn
 twice-jobs = refl
 
 -- the window holds m misses, and is kept
-pub twice-window : (windowOf (recordAfter shared twice 0) ≡ 2) × Promise shared twice 0
+pub twice-window : (windowOf (recordAfter (freshState shared) twice 0) ≡ 2) × Promise shared (freshState shared) twice 0
 unfolding stateAfter filled applied acted timed byKind ticked releasedAt completedAt stateHolds eachHolds soundHolds taskFault closed expired opened bestTo zeroes faultOf ones onesIn
 twice-window = (refl, guarantee shared 16 (shared-bounds .0) twice twice-obey 0 (lit< tt))

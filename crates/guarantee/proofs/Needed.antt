@@ -1,4 +1,4 @@
--- No hypothesis of the guarantee can go: for each a run that obeys all the others and misses a job of the required class. By computation.
+-- No hypothesis of the guarantee can go: for each a run that obeys all the others and breaks a promise. By computation.
 use Prim.Native.Nat.{ℕ, _-_, _≤_, _<_}
 use mathlib.Core.Path.{_≡_, refl, sym, _∙_}
 use mathlib.Core.Bool.{true, false, cond}
@@ -20,10 +20,11 @@ use Rattle.tables.specs.Rules.{taskFault, noTask}
 use Rattle.tables.specs.Judging.{firstFault, judged}
 use Rattle.records.specs.declared.Record.{Record}
 use Rattle.records.specs.Closing.{closed}
-use Rattle.records.specs.Opening.{expired, opened, noRecord}
+use Rattle.records.specs.Opening.{fresh, expired, opened, noRecord}
+use Rattle.records.specs.Window.{windowOf}
 use Rattle.soundness.specs.Sound.{soundHolds}
 use Rattle.states.specs.declared.State.{State}
-use Rattle.states.specs.State.{recordAt}
+use Rattle.states.specs.State.{freshState}
 use Rattle.states.specs.Sound.{eachHolds, stateHolds}
 use Rattle.states.specs.Choice.{bestTo}
 use Rattle.response.specs.Fits.{firstFit}
@@ -31,16 +32,17 @@ use Rattle.response.specs.Demand.{demand}
 use Rattle.bounds.specs.declared.Bound.the-variants as Bound
 use Rattle.bounds.specs.Asked.{allAnswer, oneAnswer}
 use Rattle.engine.specs.Apply.{ticked, releasedAt, completedAt, byKind, timed, acted, applied}
-use Rattle.guarantee.specs.History.{Job, stateAfter, jobsOf}
-use Rattle.guarantee.specs.ChosenTime.{standing, isChoice, chosenTime}
+use Rattle.guarantee.specs.History.{Job, stateAfter, recordAfter, jobsOf}
+use Rattle.guarantee.specs.ChosenTime.{standing, chosenTime}
 use Rattle.guarantee.specs.Premise.{Premise}
 use Rattle.guarantee.specs.Guarantee.{Promise}
 use Rattle.guarantee.proofs.Trying.{shortTo, obeysAt, Obeys, obeys-by, premise-by}
 use Rattle.guarantee.proofs.Listing.{taskOf, releases, finishes, ticks, jobOf}
 
 -- the newest closed job of a task was of the required class, and missed
-not-kept : (t : Table) (es : List Event) (i : ℕ) (j : Job) (jobs : List Job) → jobsOf t es i ≡ j ∷ jobs → j .class ≡ 0 → j .met ≡ false → Promise t es i → ⊥
-not-kept t es i j jobs e c m p = true-not-false (sym ((rw e at (p .required)) .0 c .0) ∙ m)
+not-kept : (t : Table) (s : State) (es : List Event) (i : ℕ) (j : Job) (jobs : List Job)
+    → jobsOf s es i ≡ j ∷ jobs → j .class ≡ 0 → j .met ≡ false → Promise t s es i → ⊥
+not-kept t s es i j jobs e c m p = true-not-false (sym ((rw e at (p .required)) .0 c .0) ∙ m)
 
 -- ---- events after x: one task of C 1 and D 1, whose job has had its tick at 1, and a tick at 2
 
@@ -57,16 +59,21 @@ alone-accepted : allAnswer alone 16 ≡ Answer.Accepted
 unfolding allAnswer judged firstFault taskFault firstFit demand total
 alone-accepted = refl
 
-late-obeys : Obeys OnlyReleases alone late
+late-obeys : Obeys OnlyReleases (freshState alone) late
 unfolding obeysAt shortTo chosenTime standing stateAfter total filled applied acted timed byKind ticked releasedAt completedAt stateHolds eachHolds soundHolds taskFault closed expired opened bestTo zeroes faultOf ones onesIn
-late-obeys = obeys-by OnlyReleases (λ e. cond (eqb (e .kind) 1) (e .time) 0) (λ e x h k. rw (eq-eqb _ _ k) at h) alone late refl
+late-obeys = obeys-by OnlyReleases (λ e. cond (eqb (e .kind) 1) (e .time) 0) (λ e x h k. rw (eq-eqb _ _ k) at h) (freshState alone) late refl
 
-late-jobs : jobsOf alone late 0 ≡ jobOf 1 0 0 2 false ∷ []
+late-jobs : jobsOf (freshState alone) late 0 ≡ jobOf 1 0 0 2 false ∷ []
 unfolding jobsOf stateAfter filled applied acted timed byKind ticked releasedAt completedAt stateHolds eachHolds soundHolds taskFault closed expired opened bestTo zeroes faultOf ones onesIn
 late-jobs = refl
 
-pub without-after : (allAnswer alone 16 ≡ Answer.Accepted) × Obeys OnlyReleases alone late × (Promise alone late 0 → ⊥)
-without-after = (alone-accepted, late-obeys, not-kept alone late 0 (jobOf 1 0 0 2 false) [] late-jobs refl refl)
+pub without-after : (allAnswer alone 16 ≡ Answer.Accepted) × Obeys OnlyReleases (freshState alone) late × (Promise alone (freshState alone) late 0 → ⊥)
+without-after = (alone-accepted, late-obeys, not-kept alone (freshState alone) late 0 (jobOf 1 0 0 2 false) [] late-jobs refl refl)
+
+-- the tick itself closes the job: a premise on the jobs that are open after an event, and not as it arrives, would let this run through
+pub open-as-it-arrives : recordAfter (freshState alone) late 0 .live ≡ false
+unfolding stateAfter filled applied acted timed byKind ticked releasedAt completedAt stateHolds eachHolds soundHolds taskFault closed expired opened bestTo zeroes faultOf ones onesIn
+open-as-it-arrives = refl
 
 -- ---- releases at x: one hard task of C, D and T 2, whose job has had its ticks at 2, and its next release at 2
 
@@ -83,16 +90,16 @@ tight-accepted : allAnswer tight 16 ≡ Answer.Accepted
 unfolding allAnswer judged firstFault taskFault firstFit demand total
 tight-accepted = refl
 
-again-obeys : Obeys OnlyAfter tight again
+again-obeys : Obeys OnlyAfter (freshState tight) again
 unfolding obeysAt shortTo chosenTime standing stateAfter total filled applied acted timed byKind ticked releasedAt completedAt stateHolds eachHolds soundHolds taskFault closed expired opened bestTo zeroes faultOf ones onesIn
-again-obeys = obeys-by OnlyAfter (λ e. e .time - 1) (λ e x h. omega arith) tight again refl
+again-obeys = obeys-by OnlyAfter (λ e. e .time - 1) (λ e x h. omega arith) (freshState tight) again refl
 
-again-jobs : jobsOf tight again 0 ≡ jobOf 1 0 0 2 false ∷ []
+again-jobs : jobsOf (freshState tight) again 0 ≡ jobOf 1 0 0 2 false ∷ []
 unfolding jobsOf stateAfter filled applied acted timed byKind ticked releasedAt completedAt stateHolds eachHolds soundHolds taskFault closed expired opened bestTo zeroes faultOf ones onesIn
 again-jobs = refl
 
-pub without-releases : (allAnswer tight 16 ≡ Answer.Accepted) × Obeys OnlyAfter tight again × (Promise tight again 0 → ⊥)
-without-releases = (tight-accepted, again-obeys, not-kept tight again 0 (jobOf 1 0 0 2 false) [] again-jobs refl refl)
+pub without-releases : (allAnswer tight 16 ≡ Answer.Accepted) × Obeys OnlyAfter (freshState tight) again × (Promise tight (freshState tight) again 0 → ⊥)
+without-releases = (tight-accepted, again-obeys, not-kept tight (freshState tight) again 0 (jobOf 1 0 0 2 false) [] again-jobs refl refl)
 
 -- ---- every task has a bound: the third task has one, the second has none, and the third misses a required job
 
@@ -106,39 +113,60 @@ crowded-bounds : (allAnswer crowded 16 ≡ Answer.Refused 13 1) × (oneAnswer cr
 unfolding allAnswer oneAnswer judged firstFault taskFault firstFit demand total
 crowded-bounds = (refl, refl)
 
-starved-obeys : Premise crowded starved
+starved-obeys : Premise (freshState crowded) starved
 unfolding obeysAt shortTo chosenTime standing stateAfter total filled applied acted timed byKind ticked releasedAt completedAt stateHolds eachHolds soundHolds taskFault closed expired opened bestTo zeroes faultOf ones onesIn
-starved-obeys = premise-by crowded starved refl
+starved-obeys = premise-by (freshState crowded) starved refl
 
-starved-jobs : jobsOf crowded starved 2 ≡ jobOf 1 0 0 3 false ∷ []
+starved-jobs : jobsOf (freshState crowded) starved 2 ≡ jobOf 1 0 0 3 false ∷ []
 unfolding jobsOf stateAfter filled applied acted timed byKind ticked releasedAt completedAt stateHolds eachHolds soundHolds taskFault closed expired opened bestTo zeroes faultOf ones onesIn
 starved-jobs = refl
 
-pub without-bounds : (oneAnswer crowded 2 ≡ Bound.At 3) × Premise crowded starved × (Promise crowded starved 2 → ⊥)
-without-bounds = (crowded-bounds .1, starved-obeys, not-kept crowded starved 2 (jobOf 1 0 0 3 false) [] starved-jobs refl refl)
+pub without-bounds : (oneAnswer crowded 2 ≡ Bound.At 3) × Premise (freshState crowded) starved × (Promise crowded (freshState crowded) starved 2 → ⊥)
+without-bounds = (crowded-bounds .1, starved-obeys, not-kept crowded (freshState crowded) starved 2 (jobOf 1 0 0 3 false) [] starved-jobs refl refl)
 
--- ---- the fresh start: in a sound state a required job may have too few ticks to its deadline, though it is the choice
+-- ---- the fresh start: of a sound state, clock 0, in which a task of (1,2) has missed its last job and still stands in class 1
 
-abbrev begun : Record
-begun =
+abbrev pair : Table
+pair = record { count = 2; tasks = taskOf 1 2 4 1 2 ∷ taskOf 3 8 8 0 1 ∷ replicate 14 noTask }
+
+pair-accepted : allAnswer pair 16 ≡ Answer.Accepted
+unfolding allAnswer judged firstFault taskFault firstFit demand total
+pair-accepted = refl
+
+abbrev missedOnce : Record
+missedOnce =
     record {
-      task = taskOf 2 2 5 0 1;
-      level = pos 0;
+      task = taskOf 1 2 4 1 2;
+      level = pos 1;
       run = 0;
-      live = true;
+      live = false;
       class = 0;
       last = 0;
       released = 1;
       met = 0;
-      missed = 0;
-      marks = 0;
+      missed = 1;
+      marks = 1;
       broken = 0;
     }
 
-abbrev midway : State
-midway = record { count = 1; clock = 1; records = begun ∷ replicate 15 noRecord }
+abbrev stale : State
+stale = record { count = 2; clock = 0; records = missedOnce ∷ fresh (taskOf 3 8 8 0 1) ∷ replicate 14 noRecord }
 
--- of its 2 ticks one is left; whoever obeys the premise may tick at 3, and the job is missed
-pub without-fresh : (stateHolds midway ≡ true) × (isChoice midway 0 1 ≡ true) × (recordAt (applied midway (ticks 3) .state) 0 .missed ≡ 1)
-unfolding filled applied acted timed byKind ticked stateHolds eachHolds soundHolds taskFault closed expired bestTo zeroes faultOf ones onesIn
-without-fresh = (refl, refl, refl)
+-- the hard task keeps the processor, and the next job is missed too
+abbrev second : List Event
+second = finishes 1 1 7 ∷ releases 0 4 ∷ releases 1 4 ∷ []
+
+stale-sound : stateHolds stale ≡ true
+unfolding stateHolds eachHolds soundHolds taskFault
+stale-sound = refl
+
+second-obeys : Premise stale second
+unfolding obeysAt shortTo chosenTime standing stateAfter total filled applied acted timed byKind ticked releasedAt completedAt stateHolds eachHolds soundHolds taskFault closed expired opened bestTo zeroes faultOf ones onesIn
+second-obeys = premise-by stale second refl
+
+second-window : windowOf (recordAfter stale second 0) ≡ 2
+unfolding stateAfter filled applied acted timed byKind ticked releasedAt completedAt stateHolds eachHolds soundHolds taskFault closed expired opened bestTo zeroes faultOf ones onesIn
+second-window = refl
+
+pub without-fresh : (allAnswer pair 16 ≡ Answer.Accepted) × (stateHolds stale ≡ true) × Premise stale second × (Promise pair stale second 0 → ⊥)
+without-fresh = (pair-accepted, stale-sound, second-obeys, λ p. omega (arith, p .windows .window, second-window))

@@ -91,12 +91,12 @@ module _ (t : Table) (good : judged t ≡ Accepted) where
         past = λ i h. filled-past (λ (j : ℕ). fresh (taskAt t j)) (replicate 16 noRecord) noRecord (t .count) i h;
       }
 
-  pub reached : (es : List Event) → Reached t (stateAfter t es)
+  pub reached : (es : List Event) → Reached t (stateAfter (freshState t) es)
   unfolding stateAfter
   reached [] = fresh-reached
   reached (e ∷ es) =
       let r = reached es in
-      let k = event-keeps (stateAfter t es) e (r .sound) in
+      let k = event-keeps (stateAfter (freshState t) es) e (r .sound) in
       record {
         sound = k .sound;
         count = k .count ∙ r .count;
@@ -106,5 +106,5 @@ module _ (t : Table) (good : judged t ≡ Accepted) where
       }
 
   -- along a run no event is refused 15
-  pub acted-on : (es : List Event) (e : Event) → applied (stateAfter t es) e ≡ acted (stateAfter t es) e
-  acted-on es e = acts (stateAfter t es) e (reached es .sound)
+  pub acted-on : (es : List Event) (e : Event) → applied (stateAfter (freshState t) es) e ≡ acted (stateAfter (freshState t) es) e
+  acted-on es e = acts (stateAfter (freshState t) es) e (reached es .sound)

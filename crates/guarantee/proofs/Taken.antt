@@ -56,9 +56,12 @@ module _ (s : State) (e : Event) where
 
   by-kind : InTime → e .kind ≤ 2 → Took (byKind s e)
   unfolding byKind ticked releasedAt completedAt
-  by-kind i k = go (eqb (e .kind) 0) (eqb (e .kind) 1) (leb (s .count) (e .task)) (tooSoon (passed (e .task)) (e .time)) (isOpen (passed (e .task)) (e .job)) refl refl refl refl refl
+  by-kind i k =
+      go (eqb (e .kind) 0) (eqb (e .kind) 1) (leb (s .count) (e .task)) (tooSoon (passed (e .task)) (e .time)) (isOpen (passed (e .task)) (e .job))
+      refl refl refl refl refl
     where
-      go : (a b c d o : Bool) → eqb (e .kind) 0 ≡ a → eqb (e .kind) 1 ≡ b → leb (s .count) (e .task) ≡ c → tooSoon (passed (e .task)) (e .time) ≡ d → isOpen (passed (e .task)) (e .job) ≡ o
+      go : (a b c d o : Bool) → eqb (e .kind) 0 ≡ a → eqb (e .kind) 1 ≡ b → leb (s .count) (e .task) ≡ c
+          → tooSoon (passed (e .task)) (e .time) ≡ d → isOpen (passed (e .task)) (e .job) ≡ o
           → Took (cond a (accepted s (e .time) (expiredAll s (e .time)))
           (cond b
           (cond c (refused s 10) (cond d (refused s 11) (accepted s (e .time) (set (expiredAll s (e .time)) (e .task) (reopened (passed (e .task)) (e .time))))))

@@ -11,6 +11,7 @@ use Rattle.tables.specs.declared.Answer.the-variants.{Accepted}
 use Rattle.tables.specs.Judging.{judged}
 use Rattle.tables.proofs.Exactly.{judged-accepted}
 use Rattle.tables.proofs.Ruling.{fault-none}
+use Rattle.states.specs.State.{freshState}
 use Rattle.windows.proofs.Bound.{ledger-kept}
 use Rattle.response.specs.Above.{taskAt, isAbove}
 use Rattle.response.specs.Bound.{IsBound}
@@ -57,7 +58,7 @@ module _ (t : Table) (room : ℕ) (ok : allAnswer t room ≡ Accepted) where
             (λ j y. omega (arith, times t good j y .some, times t good j y .within, times t good j y .spaced)) i q;
       }
 
-  pub promised : (es : List Event) → Premise t es → (i : ℕ) → i < t .count → Promise t es i
+  pub promised : (es : List Event) → Premise (freshState t) es → (i : ℕ) → i < t .count → Promise t (freshState t) es i
   promised es p i h =
       let f = steady t good (boundCell t) space (λ j. plain (taskAt t j)) (allowance (boundCell t) space) given es p .fine i h in
       record {

@@ -11,7 +11,6 @@ use lib.Dec.{leb}
 use Rattle.laws.specs.Sums.{total}
 use Rattle.laws.proofs.Sums.{total-same}
 use Rattle.events.specs.declared.Event.{Event}
-use Rattle.tables.specs.declared.Table.{Table}
 use Rattle.states.specs.declared.State.{State}
 use Rattle.guarantee.specs.History.{stateAfter}
 use Rattle.guarantee.specs.ChosenTime.{standing, isChoice, tickOf, chosenTime}
@@ -40,60 +39,60 @@ total-ones f n (suc k) h = rw (plus-suc n k) (omega (arith, total-ones f n k h, 
     plus-suc : (n k : ℕ) → n + suc k ≡ suc (n + k)
     plus-suc n k = omega arith
 
-module _ (t : Table) where
+module _ (s : State) where
   -- from its clock on, the newest state stands
-  pub stands : (es : List Event) (y : ℕ) → stateAfter t es .clock ≤ y → standing t es y ≡ stateAfter t es
+  pub stands : (es : List Event) (y : ℕ) → stateAfter s es .clock ≤ y → standing s es y ≡ stateAfter s es
   unfolding standing stateAfter
   stands [] y h = refl
   stands (e ∷ es) y h = rw (le-leb _ _ h)
 
   -- before it, the one that stood
-  stood : (e : Event) (es : List Event) (y : ℕ) → y < stateAfter t (e ∷ es) .clock → standing t (e ∷ es) y ≡ standing t es y
+  stood : (e : Event) (es : List Event) (y : ℕ) → y < stateAfter s (e ∷ es) .clock → standing s (e ∷ es) y ≡ standing s es y
   unfolding standing
   stood e es y h = rw (lt-leb _ _ h)
 
   -- an event that leaves the state leaves every tick
-  pub unmoved : (e : Event) (es : List Event) → stateAfter t (e ∷ es) ≡ stateAfter t es → (y : ℕ) → standing t (e ∷ es) y ≡ standing t es y
+  pub unmoved : (e : Event) (es : List Event) → stateAfter s (e ∷ es) ≡ stateAfter s es → (y : ℕ) → standing s (e ∷ es) y ≡ standing s es y
   unfolding standing
-  unmoved e es q y = go (decLe (stateAfter t es .clock) y)
+  unmoved e es q y = go (decLe (stateAfter s es .clock) y)
     where
-      go : Dec (stateAfter t es .clock ≤ y)
-          → cond (leb (stateAfter t (e ∷ es) .clock) y) (stateAfter t (e ∷ es)) (standing t es y) ≡ standing t es y
+      go : Dec (stateAfter s es .clock ≤ y)
+          → cond (leb (stateAfter s (e ∷ es) .clock) y) (stateAfter s (e ∷ es)) (standing s es y) ≡ standing s es y
       go (yes h) = rw (q, le-leb _ _ h) (sym (stands es y h))
-      go (no h) = rw (q, lt-leb (stateAfter t es .clock) y (omega arith))
+      go (no h) = rw (q, lt-leb (stateAfter s es .clock) y (omega arith))
 
   module _ (i j d : ℕ) where
     abbrev tick : List Event → ℕ → ℕ
-    tick es y = tickOf (isChoice (standing t es y) i j)
+    tick es y = tickOf (isChoice (standing s es y) i j)
 
-    pub time-rises : (es : List Event) (x y : ℕ) → x ≤ y → chosenTime t es i j d x ≤ chosenTime t es i j d y
+    pub time-rises : (es : List Event) (x y : ℕ) → x ≤ y → chosenTime s es i j d x ≤ chosenTime s es i j d y
     unfolding chosenTime
     time-rises es x y h =
         let e : min y d ≡ min x d + (min y d - min x d) = omega arith in
         rw e (total-more (tick es) (min x d) (min y d - min x d))
 
     -- it is counted no further than the deadline
-    pub time-stops : (es : List Event) (x : ℕ) → d ≤ x → chosenTime t es i j d x ≡ chosenTime t es i j d d
+    pub time-stops : (es : List Event) (x : ℕ) → d ≤ x → chosenTime s es i j d x ≡ chosenTime s es i j d d
     unfolding chosenTime
     time-stops es x h = ap (total (tick es)) (omega arith)
 
     -- up to the clock of the newest state, the events before it decide
-    pub time-before : (e : Event) (es : List Event) (x : ℕ) → x ≤ stateAfter t (e ∷ es) .clock → chosenTime t (e ∷ es) i j d x ≡ chosenTime t es i j d x
+    pub time-before : (e : Event) (es : List Event) (x : ℕ) → x ≤ stateAfter s (e ∷ es) .clock → chosenTime s (e ∷ es) i j d x ≡ chosenTime s es i j d x
     unfolding chosenTime
     time-before e es x h =
         total-same (tick (e ∷ es)) (tick es) (min x d) (λ y q. ap (λ (s : State). tickOf (isChoice s i j)) (stood e es y (omega arith)))
 
-    pub time-unmoved : (e : Event) (es : List Event) → stateAfter t (e ∷ es) ≡ stateAfter t es → (x : ℕ) → chosenTime t (e ∷ es) i j d x ≡ chosenTime t es i j d x
+    pub time-unmoved : (e : Event) (es : List Event) → stateAfter s (e ∷ es) ≡ stateAfter s es → (x : ℕ) → chosenTime s (e ∷ es) i j d x ≡ chosenTime s es i j d x
     unfolding chosenTime
     time-unmoved e es q x =
         total-same (tick (e ∷ es)) (tick es) (min x d) (λ y h. ap (λ (s : State). tickOf (isChoice s i j)) (unmoved e es q y))
 
     -- the choice has every tick from the clock on, up to its deadline
-    pub time-chosen : (es : List Event) (x : ℕ) → isChoice (stateAfter t es) i j ≡ true → stateAfter t es .clock ≤ x → x ≤ d
-        → chosenTime t es i j d x ≡ chosenTime t es i j d (stateAfter t es .clock) + (x - stateAfter t es .clock)
+    pub time-chosen : (es : List Event) (x : ℕ) → isChoice (stateAfter s es) i j ≡ true → stateAfter s es .clock ≤ x → x ≤ d
+        → chosenTime s es i j d x ≡ chosenTime s es i j d (stateAfter s es .clock) + (x - stateAfter s es .clock)
     unfolding chosenTime
     time-chosen es x c h l =
-        let a = stateAfter t es .clock in
+        let a = stateAfter s es .clock in
         let ex : min x d ≡ a + (x - a) = min-eq-left l ∙ omega arith in
         let ea : min a d ≡ a = min-eq-left (omega arith) in
         rw (ex, ea) (total-ones (tick es) a (x - a) (λ y q. ap (λ (s : State). tickOf (isChoice s i j)) (stands es y q) ∙ ap tickOf c))

@@ -5,16 +5,15 @@ use mathlib.Core.List.{List, [], _∷_}
 use lib.Dec.{eqb, leb}
 use Rattle.laws.specs.Sums.{total}
 use Rattle.events.specs.declared.Event.{Event}
-use Rattle.tables.specs.declared.Table.{Table}
 use Rattle.states.specs.declared.State.{State}
-use Rattle.states.specs.State.{recordAt, freshState}
+use Rattle.states.specs.State.{recordAt}
 use Rattle.states.specs.Choice.{chosen}
 use Rattle.guarantee.specs.History.{stateAfter, recordAfter}
 
--- the state that stands at tick y: the last one whose clock is not after y
-unfoldable pub standing : Table → List Event → ℕ → State
-standing t [] y = freshState t
-standing t (e ∷ es) y = cond (leb (stateAfter t (e ∷ es) .clock) y) (stateAfter t (e ∷ es)) (standing t es y)
+-- the state that stands at tick y: the last one whose clock is not after y, of a run that starts at clock 0
+unfoldable pub standing : State → List Event → ℕ → State
+standing s [] y = s
+standing s (e ∷ es) y = cond (leb (stateAfter s (e ∷ es) .clock) y) (stateAfter s (e ∷ es)) (standing s es y)
 
 -- job j of task i is the choice
 abbrev pub isChoice : State → ℕ → ℕ → Bool
@@ -24,10 +23,10 @@ abbrev pub tickOf : Bool → ℕ
 tickOf b = cond b 1 0
 
 -- the ticks before x and before the deadline d at which job j of task i is the choice
-unfoldable pub chosenTime : Table → List Event → ℕ → ℕ → ℕ → ℕ → ℕ
-chosenTime t es i j d x = total (λ y. tickOf (isChoice (standing t es y) i j)) (min x d)
+unfoldable pub chosenTime : State → List Event → ℕ → ℕ → ℕ → ℕ → ℕ
+chosenTime s es i j d x = total (λ y. tickOf (isChoice (standing s es y) i j)) (min x d)
 
 -- of task i's open job after the run, up to tick x
-abbrev pub openTime : Table → List Event → ℕ → ℕ → ℕ
-openTime t es i x =
-    chosenTime t es i (recordAfter t es i .released) (recordAfter t es i .last + recordAfter t es i .task .d) x
+abbrev pub openTime : State → List Event → ℕ → ℕ → ℕ
+openTime s es i x =
+    chosenTime s es i (recordAfter s es i .released) (recordAfter s es i .last + recordAfter s es i .task .d) x

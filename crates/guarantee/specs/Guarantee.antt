@@ -7,6 +7,8 @@ use Rattle.events.specs.declared.Event.{Event}
 use Rattle.tables.specs.declared.Table.{Table}
 use Rattle.tables.specs.declared.Answer.the-variants.{Accepted}
 use Rattle.windows.specs.Bound.{Kept}
+use Rattle.states.specs.declared.State.{State}
+use Rattle.states.specs.State.{freshState}
 use Rattle.response.specs.Above.{taskAt}
 use Rattle.bounds.specs.Asked.{allAnswer, boundCell}
 use Rattle.guarantee.specs.History.{Job, recordAfter, jobsOf, outcomesOf}
@@ -21,11 +23,12 @@ Each P [] = Unit
 Each P (j ∷ jobs) = P j × Each P jobs
 
 -- of task i: its closed jobs, and any K of them in a row, its window number and `broken`
-pub record Promise (t : Table) (es : List Event) (i : ℕ) : Type 0 where
-  pub required : Each (Good (boundCell t i)) (jobsOf t es i)
-  pub windows : Kept (taskAt t i) (outcomesOf (jobsOf t es i)) (recordAfter t es i)
+pub record Promise (t : Table) (s : State) (es : List Event) (i : ℕ) : Type 0 where
+  pub required : Each (Good (boundCell t i)) (jobsOf s es i)
+  pub windows : Kept (taskAt t i) (outcomesOf (jobsOf s es i)) (recordAfter s es i)
 
--- for every table whose analysis gives all bounds and every run that obeys the premise, of every task
+-- for every table whose analysis, with room for so many numbers, gives all bounds, and every run from its
+-- fresh state that obeys the premise: of every task
 abbrev pub Guarantee : Type 0
 Guarantee =
-    (t : Table) (room : ℕ) → allAnswer t room ≡ Accepted → (es : List Event) → Premise t es → (i : ℕ) → i < t .count → Promise t es i
+    (t : Table) (room : ℕ) → allAnswer t room ≡ Accepted → (es : List Event) → Premise (freshState t) es → (i : ℕ) → i < t .count → Promise t (freshState t) es i

@@ -1,25 +1,24 @@
--- A run: events applied one after the other from the fresh state of a table, listed newest first, and the jobs that closed in it.
+-- A run: events applied one after the other from a state, listed newest first, and the jobs that closed in it.
 use Prim.Native.Nat.{ℕ}
 use mathlib.Core.Bool.{Bool, true, false, cond}
 use mathlib.Core.List.{List, [], _∷_, map}
 use lib.Dec.{eqb}
 use Rattle.events.specs.declared.Event.{Event}
-use Rattle.tables.specs.declared.Table.{Table}
 use Rattle.records.specs.declared.Record.{Record}
 use Rattle.states.specs.declared.State.{State}
-use Rattle.states.specs.State.{recordAt, freshState}
+use Rattle.states.specs.State.{recordAt}
 use Rattle.engine.specs.declared.Answer.{Answer}
 use Rattle.engine.specs.declared.Answer.the-variants.{Run, Idle, Refused}
 use Rattle.engine.specs.Apply.{applied}
 
 -- the state that a run leaves; a refused event leaves the one before it
-unfoldable pub stateAfter : Table → List Event → State
-stateAfter t [] = freshState t
-stateAfter t (e ∷ es) = applied (stateAfter t es) e .state
+unfoldable pub stateAfter : State → List Event → State
+stateAfter s [] = s
+stateAfter s (e ∷ es) = applied (stateAfter s es) e .state
 
 -- task i's record in it
-abbrev pub recordAfter : Table → List Event → ℕ → Record
-recordAfter t es i = recordAt (stateAfter t es) i
+abbrev pub recordAfter : State → List Event → ℕ → Record
+recordAfter s es i = recordAt (stateAfter s es) i
 
 abbrev pub accepts : Answer → Bool
 accepts (Run p c) = true
@@ -27,8 +26,8 @@ accepts Idle = true
 accepts (Refused n) = false
 
 -- the next event of a run is accepted
-abbrev pub isAccepted : Table → List Event → Event → Bool
-isAccepted t es e = accepts (applied (stateAfter t es) e .answer)
+abbrev pub isAccepted : State → List Event → Event → Bool
+isAccepted s es e = accepts (applied (stateAfter s es) e .answer)
 
 -- a closed job: its number, its release, the class that it opened with, when it closed, and met or missed
 pub record Job : Type 0 where
@@ -51,10 +50,10 @@ closedJob r e i =
     record { number = r .released; release = r .last; class = r .class; closing = e .time; met = completes e i }
 
 -- the jobs of task i that closed in a run, newest first
-unfoldable pub jobsOf : Table → List Event → ℕ → List Job
-jobsOf t [] i = []
-jobsOf t (e ∷ es) i =
-    cond (closes (recordAfter t es i) (recordAfter t (e ∷ es) i)) (closedJob (recordAfter t es i) e i ∷ jobsOf t es i) (jobsOf t es i)
+unfoldable pub jobsOf : State → List Event → ℕ → List Job
+jobsOf s [] i = []
+jobsOf s (e ∷ es) i =
+    cond (closes (recordAfter s es i) (recordAfter s (e ∷ es) i)) (closedJob (recordAfter s es i) e i ∷ jobsOf s es i) (jobsOf s es i)
 
 -- their outcomes, true for a met job
 abbrev pub outcomesOf : List Job → List Bool

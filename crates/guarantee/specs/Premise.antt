@@ -5,7 +5,7 @@ use mathlib.Core.Path.{_≡_}
 use mathlib.Core.Bool.{true}
 use mathlib.Core.List.{List, [], _∷_}
 use Rattle.events.specs.declared.Event.{Event}
-use Rattle.tables.specs.declared.Table.{Table}
+use Rattle.states.specs.declared.State.{State}
 use Rattle.guarantee.specs.History.{recordAfter, isAccepted}
 use Rattle.guarantee.specs.ChosenTime.{openTime}
 
@@ -14,11 +14,11 @@ pub record Waits (e : Event) (x : ℕ) : Type 0 where
   pub not-after : e .time ≤ x
   pub no-release : e .kind ≡ 1 → e .time < x
 
-abbrev pub Timely : Table → List Event → Event → Type 0
-Timely t es e =
-    (i x : ℕ) → i < t .count → recordAfter t es i .live ≡ true → recordAfter t es i .task .c ≤ openTime t es i x → Waits e x
+abbrev pub Timely : State → List Event → Event → Type 0
+Timely s es e =
+    (i x : ℕ) → i < s .count → recordAfter s es i .live ≡ true → recordAfter s es i .task .c ≤ openTime s es i x → Waits e x
 
 -- every accepted event of a run is timely
-unfoldable pub Premise : Table → List Event → Type 0
-Premise t [] = Unit
-Premise t (e ∷ es) = Premise t es × (isAccepted t es e ≡ true → Timely t es e)
+unfoldable pub Premise : State → List Event → Type 0
+Premise s [] = Unit
+Premise s (e ∷ es) = Premise s es × (isAccepted s es e ≡ true → Timely s es e)

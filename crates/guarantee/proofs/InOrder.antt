@@ -1,0 +1,21 @@
+-- A run may be told oldest first: applying the events in that order reaches the state after the same events listed newest first.
+use mathlib.Core.Path.{_≡_, refl}
+use mathlib.Core.List.{List, [], _∷_}
+use Rattle.events.specs.declared.Event.{Event}
+use Rattle.states.specs.declared.State.{State}
+use Rattle.engine.specs.Apply.{applied}
+use Rattle.guarantee.specs.History.{stateAfter}
+
+abbrev pub inOrder : State → List Event → State
+inOrder s [] = s
+inOrder s (e ∷ es) = inOrder (applied s e .state) es
+
+-- events told oldest first, put in front of those before them
+abbrev pub onto : List Event → List Event → List Event
+onto [] past = past
+onto (e ∷ es) past = onto es (e ∷ past)
+
+pub told-in-order : (s : State) (es past : List Event) → inOrder (stateAfter s past) es ≡ stateAfter s (onto es past)
+unfolding stateAfter
+told-in-order s [] past = refl
+told-in-order s (e ∷ es) past = told-in-order s es (e ∷ past)
