@@ -3,5 +3,7 @@ pub mod Exactly
 pub mod Frame
 pub mod Kept
 pub mod Places
+pub mod Rulings
 pub mod Runs
+pub mod Settled
 pub mod Worked

@@ -1,7 +1,7 @@
 -- A log is applied record by record: what is left of it, applied to the state so far, gives what the whole gives. A sound state stays
 -- sound, so that the work may be done without another test.
 use Prim.Native.Nat.{ℕ, _+_, _≤_}
-use mathlib.Core.Path.{_≡_, refl, _∙_}
+use mathlib.Core.Path.{_≡_, refl, sym, _∙_}
 use mathlib.Core.List.{List, [], _∷_}
 use native.Mathlib.Omega.{arith}
 use lib.ListN.{length, drop, length-drop}
@@ -18,7 +18,8 @@ use Rattle.states.specs.Sound.{StateSound}
 use Rattle.states.proofs.Sounding.{state-tells}
 use Rattle.engine.specs.declared.Applied.{Applied}
 use Rattle.engine.specs.Apply.{acted, applied}
-use Rattle.engine.specs.Log.{standing, ranOver}
+use Rattle.engine.specs.Log.{standing, ranOver, ran}
+use Rattle.engine.proofs.Frame.{count-stays}
 use Rattle.engine.proofs.Kept.{applied-sound}
 
 -- on a sound state applying is acting
@@ -41,28 +42,44 @@ events-none s k = go (front s)
     go (inl g) = absurd (k (eventOf s) (g .reads))
     go (inr f) = rw (f .none)
 
--- at a place of the log, with the state and answer so far
-pub record Going (s : State) (log : List ℕ) (at : ℕ) (last : Applied) : Type 0 where
-  pub within : at ≤ length log
-  pub sound : StateSound (last .state)
-  pub same : ranOver (standing s) (eventsOf log) ≡ ranOver last (eventsOf (drop at log))
+-- nothing follows in an empty log
+pub ran-nothing : (a : Applied) → ranOver a (eventsOf []) ≡ a
+unfolding ranOver readRecord
+ran-nothing a = rw (events-none [] (λ e q. let z : _≡_ {A = ℕ} 0 1 = cc in absurd (omega arith)))
 
-pub going-none : (s : State) (log : List ℕ) → StateSound s → Going s log 0 (standing s)
-going-none s log p = record { within = omega arith; sound = p; same = refl }
+-- a log by what its front reads as
+module _ (s : State) (log : List ℕ) (p : StateSound s) where
+  pub ran-stands : ((e : Event) → readRecord log ≡ R.Event e → ⊥) → ran s log ≡ standing s
+  unfolding ran ranOver
+  ran-stands k = rw (tells-true (state-tells s) p, events-none log k)
 
-pub going-more : (s : State) (log : List ℕ) (at : ℕ) (last : Applied) (e : Event) → Going s log at last → readRecord (drop at log) ≡ R.Event e
-    → Going s log (at + 20) (acted (last .state) e)
-unfolding ranOver
-going-more s log at last e g q =
-    let l : 20 ≤ length (drop at log) = goes-of (drop at log) e q .long in
-    let a = sound-acts (last .state) e (g .sound) in
-    record {
-      within = omega (arith, rw (length-drop at log) at l, g .within);
-      sound = rw a (applied-sound (last .state) (g .sound) e);
-      same = g .same ∙ rw (events-more (drop at log) e q, drop-drop 20 at log, a);
-    }
+  pub ran-first : (e : Event) → readRecord log ≡ R.Event e → ran s log ≡ ranOver (applied s e) (eventsOf (drop 20 log))
+  unfolding ran ranOver
+  ran-first e q = rw (tells-true (state-tells s) p, events-more log e q)
 
-pub going-stop : (s : State) (log : List ℕ) (at : ℕ) (last : Applied) → Going s log at last → ((e : Event) → readRecord (drop at log) ≡ R.Event e → ⊥)
-    → ranOver (standing s) (eventsOf log) ≡ last
-unfolding ranOver
-going-stop s log at last g k = g .same ∙ rw (events-none (drop at log) k)
+-- at a place of the log, with the event that was read last and the state before it
+pub record Going (s : State) (first : Event) (log : List ℕ) (from : ℕ) (next : State) (event : Event) : Type 0 where
+  pub within : from ≤ length log
+  pub sound : StateSound next
+  pub counted : next .count ≡ s .count
+  pub same : ranOver (applied s first) (eventsOf log) ≡ ranOver (applied next event) (eventsOf (drop from log))
+
+module _ (s : State) (first : Event) (log : List ℕ) where
+  pub going-none : StateSound s → Going s first log 0 s first
+  going-none p = record { within = omega arith; sound = p; counted = refl; same = refl }
+
+  module _ (from : ℕ) (next : State) (event : Event) (g : Going s first log from next event) where
+    pub going-more : (other : Event) → readRecord (drop from log) ≡ R.Event other → Going s first log (from + 20) (applied next event .state) other
+    unfolding ranOver
+    going-more other q =
+        let l : 20 ≤ length (drop from log) = goes-of (drop from log) other q .long in
+        record {
+          within = omega (arith, rw (length-drop from log) at l, g .within);
+          sound = applied-sound next (g .sound) event;
+          counted = count-stays next event ∙ g .counted;
+          same = g .same ∙ rw (events-more (drop from log) other q, drop-drop 20 from log);
+        }
+
+    pub going-stop : ((e : Event) → readRecord (drop from log) ≡ R.Event e → ⊥) → applied next event ≡ ranOver (applied s first) (eventsOf log)
+    unfolding ranOver
+    going-stop k = sym (g .same ∙ rw (events-none (drop from log) k))

@@ -9,6 +9,7 @@ use Rattle.events.specs.Event.{faultOf}
 use Rattle.records.specs.declared.Record.{Record}
 use Rattle.records.specs.Closing.{closed}
 use Rattle.records.specs.Opening.{expired}
+use Rattle.states.specs.declared.Best.{Best}
 use Rattle.states.specs.declared.State.{State}
 use Rattle.states.specs.State.{recordAt}
 use Rattle.states.specs.Sound.{limit, stateHolds}
@@ -19,8 +20,11 @@ use Rattle.engine.specs.declared.Applied.{Applied}
 use Rattle.engine.specs.Steps.{expiredAll, tooSoon, reopened, isOpen}
 
 -- run with the chosen position and that job's class, or idle
+abbrev pub toldOf : Best → ℕ → Answer
+toldOf b class = cond (b .found) (Run (b .at) class) Idle
+
 abbrev pub answerOf : State → Answer
-answerOf s = cond (chosen s .found) (Run (chosen s .at) (recordAt s (chosen s .at) .class)) Idle
+answerOf s = toldOf (chosen s) (recordAt s (chosen s .at) .class)
 
 -- the clock becomes t
 abbrev pub moved : State → ℕ → List Record → State

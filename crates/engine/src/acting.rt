@@ -1,19 +1,22 @@
-// Acting on a state that is known to be sound: 7, 8, 9, 10, then 11 or 12. A refused event returns the state as given.
+// Acting on a sound state, in place: one state is held, so that an event copies nothing but its own task's record.
 use super::Answer;
 use super::Applied;
-use super::steps::expire_all;
-use super::steps::is_open;
-use super::steps::reopen;
-use super::steps::too_soon;
+use super::judging::rule;
+use super::judging::seat;
+use super::telling::told;
 use events::Event;
-use events::judge;
+use events::Reading;
+use events::read;
 use records::closing::close;
-use records::opening::expire;
+use records::opening::is_late;
+use states::Best;
 use states::State;
-use states::choice::choose;
+use states::choice::better_of;
 ghost use mathlib.Core.Path.{_≡_};
-ghost use Prim.Native.Nat.{_≤_};
-ghost use Rattle.engine.specs.Apply.{answerOf, accepted, refused, ticked, releasedAt, completedAt, byKind, timed, acted};
+ghost use Rattle.events.specs.Log.{eventsOf};
+ghost use Rattle.states.specs.Sound.{StateSound};
+ghost use Rattle.engine.specs.Apply.{refused, applied};
+ghost use Rattle.engine.specs.Log.{ranOver};
 
 pub fn refuse(state: State, number: u8) -> Applied
     ensures { λ r. ⌜ r ≡ refused state number ⌝ }
@@ -24,108 +27,49 @@ pub fn refuse(state: State, number: u8) -> Applied
     }
 }
 
-pub fn answer(state: State) -> Answer
-    ensures { λ r. ⌜ r ≡ answerOf state ⌝ }
+// The event, and then those that follow it in a log. A refused event leaves the state as it stands.
+pub fn act(state: State, first: Event, log: &[u8]) -> Applied
+    requires { ⌜ StateSound state ⌝ }
+    ensures { λ r. ⌜ r ≡ ranOver (applied state first) (eventsOf (now (log .entry))) ⌝ }
 {
-    let best = choose(state);
-    if best.found {
-        let at = best.at;
-        let class = state.records[at].class;
-        return Answer::Run {
-            position: at,
-            class: class,
-        };
-    }
-    Answer::Idle
-}
-
-fn accept(state: State, time: u64) -> Applied
-    ensures { λ r. ⌜ r ≡ accepted state time (state .records) ⌝ }
-{
+    let count = state.count;
     let mut next = state;
-    next.clock = time;
-    let said = answer(next);
-    Applied {
-        answer: said,
-        state: next,
+    let mut said = Answer::Idle;
+    let mut event = first;
+    let mut from: usize = 0;
+    loop {
+        let at = seat(event.task, count);
+        let ruling = rule(next.clock, count, next.records[at], event);
+        if ruling.refusal == 0 {
+            next.clock = event.time;
+            let after = ruling.after;
+            next.records[at] = after;
+            let mut best = Best {
+                found: false,
+                key: 0,
+                at: 0,
+            };
+            let mut i: usize = 0;
+            while i < count {
+                if is_late(next.records[i], event.time) {
+                    let one = close(next.records[i], false);
+                    next.records[i] = one;
+                }
+                best = better_of(best, next.records[i], i);
+                i += 1;
+            }
+            let chosen = best.at;
+            said = told(best, next.records[chosen].class);
+        } else {
+            said = Answer::Refused(ruling.refusal);
+        }
+        let Reading::Event(other) = read(&log[from..]) else {
+            return Applied {
+                answer: said,
+                state: next,
+            };
+        };
+        event = other;
+        from += 20;
     }
-}
-
-fn tick(state: State, time: u64) -> Applied
-    requires { ⌜ state .count ≤ 16 ⌝ }
-    ensures { λ r. ⌜ r ≡ ticked state time ⌝ }
-{
-    accept(expire_all(state, time), time)
-}
-
-fn release_at(state: State, task: usize, time: u64) -> Applied
-    requires { ⌜ state .count ≤ 16 ⌝ }
-    ensures { λ r. ⌜ r ≡ releasedAt state task time ⌝ }
-{
-    if state.count <= task {
-        return refuse(state, 10);
-    }
-    let one = expire(state.records[task], time);
-    if too_soon(one, time) {
-        return refuse(state, 11);
-    }
-    let mut next = expire_all(state, time);
-    let new = reopen(one, time);
-    next.records[task] = new;
-    accept(next, time)
-}
-
-fn complete_at(state: State, task: usize, job: u64, time: u64) -> Applied
-    requires { ⌜ state .count ≤ 16 ⌝ }
-    ensures { λ r. ⌜ r ≡ completedAt state task job time ⌝ }
-{
-    if state.count <= task {
-        return refuse(state, 10);
-    }
-    let one = expire(state.records[task], time);
-    if is_open(one, job) {
-        let mut next = expire_all(state, time);
-        let closed = close(one, true);
-        next.records[task] = closed;
-        return accept(next, time);
-    }
-    refuse(state, 12)
-}
-
-fn by_kind(state: State, event: Event) -> Applied
-    requires { ⌜ state .count ≤ 16 ⌝ }
-    ensures { λ r. ⌜ r ≡ byKind state event ⌝ }
-{
-    if event.kind == 0 {
-        return tick(state, event.time);
-    }
-    let task = event.task as usize;
-    if event.kind == 1 {
-        return release_at(state, task, event.time);
-    }
-    complete_at(state, task, event.job, event.time)
-}
-
-fn in_time(state: State, event: Event) -> Applied
-    requires { ⌜ state .count ≤ 16 ⌝ }
-    ensures { λ r. ⌜ r ≡ timed state event ⌝ }
-{
-    if 1000000000000 < event.time {
-        return refuse(state, 9);
-    }
-    if event.time < state.clock {
-        return refuse(state, 9);
-    }
-    by_kind(state, event)
-}
-
-pub fn act(state: State, event: Event) -> Applied
-    requires { ⌜ state .count ≤ 16 ⌝ }
-    ensures { λ r. ⌜ r ≡ acted state event ⌝ }
-{
-    let fault = judge(event);
-    if fault != 0 {
-        return refuse(state, fault);
-    }
-    in_time(state, event)
 }

@@ -12,7 +12,7 @@ pub fn apply(state: State, event: Event) -> Applied
     ensures { λ r. ⌜ r ≡ applied state event ⌝ }
 {
     if is_sound(state) {
-        return act(state, event);
+        return act(state, event, b"");
     }
     refuse(state, 15)
 }

@@ -1,28 +1,9 @@
-// The steps of an event: what expires, whether a release comes too soon, and what opens.
+// The steps of an event for its own task: whether a release comes too soon, what opens, and which job is open.
 use records::Record;
 use records::closing::close;
-use records::opening::expire;
 use records::opening::release;
-use states::State;
 ghost use mathlib.Core.Path.{_≡_};
-ghost use Prim.Native.Nat.{_≤_};
-ghost use Rattle.engine.specs.Steps.{expiredState, tooSoon, reopened, isOpen};
-
-// Step 1: every open job with its deadline below the time is closed as missed.
-pub fn expire_all(state: State, time: u64) -> State
-    requires { ⌜ state .count ≤ 16 ⌝ }
-    ensures { λ r. ⌜ r ≡ expiredState state time ⌝ }
-{
-    let count = state.count;
-    let mut next = state;
-    let mut i: usize = 0;
-    while i < count {
-        let one = expire(next.records[i], time);
-        next.records[i] = one;
-        i += 1;
-    }
-    next
-}
+ghost use Rattle.engine.specs.Steps.{tooSoon, reopened, isOpen};
 
 // 11, without the sum of last release and T.
 pub fn too_soon(of: Record, time: u64) -> bool

@@ -89,7 +89,11 @@ pub whenever-if : (a b : Bool) → (a ≡ true → b ≡ true) → whenever a b 
 whenever-if true b f = f refl
 whenever-if false b f = refl
 
--- what both ways of a test have, the one that is taken has
+-- what both ways of a test have, the one that is taken has; so too of two values by one test
 pub by-test : {A : Type 0} (P : A → Type 0) (b : Bool) (x y : A) → (b ≡ true → P x) → (b ≡ false → P y) → P (cond b x y)
 by-test P true x y f g = f refl
 by-test P false x y f g = g refl
+
+pub by-both : {A B : Type 0} (P : A → B → Type 0) (b : Bool) (x y : A) (u v : B) → (b ≡ true → P x u) → (b ≡ false → P y v) → P (cond b x y) (cond b u v)
+by-both P true x y u v f g = f refl
+by-both P false x y u v f g = g refl

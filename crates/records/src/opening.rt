@@ -29,7 +29,7 @@ pub fn fresh_of(task: Task) -> Record
 }
 
 // Whether the open job's deadline is below the time; no sum is made, since any record is taken.
-fn is_late(of: Record, time: u64) -> bool
+pub fn is_late(of: Record, time: u64) -> bool
     ensures { λ r. ⌜ r ≡ late of time ⌝ }
 {
     if of.live {

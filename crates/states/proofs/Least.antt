@@ -9,14 +9,15 @@ use native.Mathlib.Nat.{not-suc-le-zero}
 use native.Mathlib.Omega.{arith}
 use borrow.Author.Tests.{ltb-true, ltb-false}
 use lib.Dec.{ltb}
-use lib.ListN.{getD}
-use Rattle.laws.proofs.Tests.{true-not-false}
+use lib.ListN.{getD, set}
+use lib.Seq.{getD-set-other}
+use Rattle.laws.proofs.Tests.{true-not-false, by-test}
 use Rattle.records.specs.declared.Record.{Record}
 use Rattle.records.specs.Opening.{noRecord}
 use Rattle.records.specs.Rank.{keyOf}
 use Rattle.records.proofs.Ranks.{Before}
 use Rattle.states.specs.declared.Best.{Best}
-use Rattle.states.specs.Choice.{better, bestTo}
+use Rattle.states.specs.Choice.{wins, better, bestTo}
 
 module _ (l : List Record) where
   abbrev at : ℕ → Record
@@ -108,3 +109,26 @@ module _ (l : List Record) where
       go : (b : Best) → Found n b → b .found ≡ true → b .at < n
       go b (some f) q = f .below
       go b (nothing f) q = absurd (true-not-false (sym q))
+
+  -- at most the positions passed, whether one was found or not
+  best-most : (n : ℕ) → bestTo l n .at ≤ n
+  unfolding bestTo
+  best-most zero = omega arith
+  best-most (suc n) =
+      by-test (λ (b : Best). b .at ≤ suc n) (wins (bestTo l n) (at n .live) (keyOf (at n))) _ _ (λ e. omega arith) (λ e. omega (arith, best-most n))
+
+  -- where there is a position, it is one of them
+  pub best-within : (n : ℕ) → 0 < n → bestTo l n .at < n
+  unfolding bestTo
+  best-within zero h = absurd (not-suc-le-zero h)
+  best-within (suc n) h =
+      by-test (λ (b : Best). b .at < suc n) (wins (bestTo l n) (at n .live) (keyOf (at n))) _ _ (λ e. omega arith) (λ e. omega (arith, best-most n))
+
+-- a record stored at a position not yet passed changes nothing of what was found
+pub best-stored : (l : List Record) (n : ℕ) (x : Record) → bestTo (set l n x) n ≡ bestTo l n
+unfolding bestTo
+best-stored l n x = go n (λ i h. getD-set-other l n i x noRecord (λ q. omega arith))
+  where
+    go : (m : ℕ) → ((i : ℕ) → i < m → getD (set l n x) i noRecord ≡ getD l i noRecord) → bestTo (set l n x) m ≡ bestTo l m
+    go zero h = refl
+    go (suc m) h = rw (go m (λ i q. h i (omega arith)), h m (omega arith))
