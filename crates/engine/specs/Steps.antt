@@ -14,9 +14,6 @@ use Rattle.states.specs.State.{recordAt}
 abbrev pub expiredAll : State → ℕ → List Record
 expiredAll s t = filled (λ i. expired (recordAt s i) t) (s .count) (s .records)
 
-abbrev pub expiredState : State → ℕ → State
-expiredState s t = record { count = s .count; clock = s .clock; records = expiredAll s t }
-
 -- 11: a release sooner than T after the task's last release, if it had one
 abbrev pub tooSoon : Record → ℕ → Bool
 tooSoon r t = cond (eqb (r .released) 0) false (ltb t (r .last + r .task .t))
