@@ -1,0 +1,119 @@
+#!/usr/bin/env python3
+"""promises.py: what docs/PROMISES.md names is there, every must-fail edit is named in it, and every public function says its whole answer.
+
+It prints each thing that is missing and fails if there is one."""
+import pathlib
+import re
+import sys
+
+ROOT = pathlib.Path(__file__).resolve().parent.parent
+CRATES = ROOT / "crates"
+missing = []
+
+
+def read(path):
+    return path.read_text(encoding="utf-8")
+
+
+def sources(kind, suffix):
+    return [p for p in CRATES.glob(f"*/{kind}/**/*{suffix}")]
+
+
+# ---- what there is
+
+edits = {p.stem: p.parent.parent.name for p in CRATES.glob("*/must-fail/*.edit")}
+crates = {p.name for p in CRATES.iterdir() if p.is_dir()}
+declared = {}  # by a file's name: the definitions and theorems in it
+for path in sources("specs", ".antt") + sources("proofs", ".antt"):
+    text = read(path)
+    here = declared.setdefault(path.stem, set())
+    here |= set(re.findall(r"^\s*(?:abbrev |unfoldable |pub )*(?:data |record )?([^\s(){}:]+)(?: [({][^)}]*[)}])* :", text, re.M))
+functions = {}  # by a file's or a crate's name: the functions and types in it
+for path in sources("src", ".rt"):
+    text = read(path)
+    crate = path.relative_to(CRATES).parts[0]
+    here = set(re.findall(r"\b(?:fn|struct|enum|const) (\w+)", text)) | set(re.findall(r"^    (?:pub )?(\w+)(?:: | \{|,|\()", text, re.M))
+    functions.setdefault(path.stem, set()).update(here | {crate})
+    functions.setdefault(crate, set()).update(here | {path.stem})
+names = crates | set(declared) | set(functions) | set().union(*declared.values(), *functions.values())
+
+# ---- what the promises name
+
+WORDS = {"&", "let", "loop", "requires", "specs", "proofs", "must-fail", "pub", "es", "i"}
+
+
+def known(word):
+    parts = [x for x in re.split(r"::|\.|/", word) if x and x != "antt"]
+    inside = all(b in functions.get(a, names) for a, b in zip(parts, parts[1:])) if "::" in word else True
+    return inside and all(x in names or x in edits or x in WORDS for x in parts)
+
+
+def check_line(at, line, edit_column):
+    for token in re.findall(r"`([^`]+)`", line):
+        if not (known(token.split()[0]) or (ROOT / token).exists()):
+            missing.append(f"{at}: `{token}` names nothing")
+    # `File` name, name: the names stand in that file
+    for stem, tokens in re.findall(r"\b([A-Z]\w+) ((?:`[^` ]+`(?:, | and )?)+)", line):
+        for token in re.findall(r"`([^`]+)`", tokens):
+            if stem in declared and token not in declared[stem] and "::" not in token and token not in crates:
+                missing.append(f"{at}: `{token}` is not in {stem}")
+    for stem, token in re.findall(r"`([A-Z]\w+)\.([\w-]+)`", line):
+        if stem in declared and token not in declared[stem]:
+            missing.append(f"{at}: `{token}` is not in {stem}")
+    if edit_column:
+        for token in re.findall(r"`([^`]+)`", line.strip().strip("|").split("|")[-1]):
+            if token not in edits and token not in crates:
+                missing.append(f"{at}: there is no edit `{token}`")
+
+
+in_edits = False
+for number, line in enumerate(read(ROOT / "docs/PROMISES.md").splitlines(), 1):
+    if not line.startswith("|"):
+        in_edits = False
+    elif re.search(r"\| (Must-fail edits|Edits) \|$", line):
+        in_edits = True
+    check_line(f"docs/PROMISES.md:{number}", line, in_edits)
+
+told = set(re.findall(r"`(\w+)`", read(ROOT / "docs/PROMISES.md")))
+for name in sorted(edits):
+    if name not in told:
+        missing.append(f"crates/{edits[name]}/must-fail/{name}.edit is named by no promise")
+
+# ---- public functions
+
+
+def public_files(crate):
+    """The files that can be reached from lib.rt by `pub mod` alone."""
+    root = crate / "src/lib.rt"
+    todo, found = [root], []
+    while todo:
+        path = todo.pop()
+        found.append(path)
+        for mod in re.findall(r"^pub mod (\w+);", read(path), re.M):
+            folder = path.parent if path.name == "lib.rt" else path.parent / path.stem
+            todo.append(folder / f"{mod}.rt")
+    return found
+
+
+decisions = read(ROOT / "docs/DECISIONS.md")
+count = 0
+for crate in sorted(p.parent.parent for p in CRATES.glob("*/src/lib.rt")):
+    for path in public_files(crate):
+        for match in re.finditer(r'^pub (?:extern "C" )?fn (\w+)\((.*?)\)(.*?)^\{', read(path), re.M | re.S):
+            name, parameters, clauses = match.groups()
+            at = f"{path.relative_to(ROOT)}: {name}"
+            count += 1
+            excepted = f"`{crate.name}::{path.stem}::{name}`" in decisions or f"`{crate.name}::{name}`" in decisions
+            if "requires {" in clauses and not excepted:
+                missing.append(f"{at} has a `requires`")
+            if "ensures {" not in clauses:
+                missing.append(f"{at} has no contract")
+            elif not re.search(r"\br ≡ |≡ ", clauses):
+                missing.append(f"{at}: its contract is no equation")
+            for lent in re.findall(r"(\w+): &mut", parameters):
+                if f"{lent} .exit" not in clauses:
+                    missing.append(f"{at}: nothing is said of what {lent} holds afterwards")
+
+print("\n".join(missing))
+print(f"{len(edits)} edits, {count} public functions, {len(missing)} missing")
+sys.exit(1 if missing else 0)
