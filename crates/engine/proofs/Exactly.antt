@@ -20,7 +20,8 @@ use Rattle.states.proofs.Sounding.{state-tells}
 use Rattle.engine.specs.declared.Answer.{Answer}
 use Rattle.engine.specs.declared.Applied.{Applied}
 use Rattle.engine.specs.Answers.{numberOf}
-use Rattle.engine.specs.Steps.{expiredAll, tooSoon, reopened, isOpen}
+use Rattle.rulings.specs.Steps.{tooSoon, reopened, isOpen}
+use Rattle.engine.specs.Steps.{expiredAll}
 use Rattle.engine.specs.Apply.{answerOf, moved, refused, ticked, releasedAt, completedAt, byKind, timed, acted, applied}
 use Rattle.engine.specs.Verdict.{afterOne, Heard, Verdict, unsound, unruled, untimely, no-task, too-soon, no-job, ticks, releases, completes}
 

@@ -22,7 +22,8 @@ use Rattle.states.specs.Choice.{chosen}
 use Rattle.engine.specs.declared.Answer.{Answer}
 use Rattle.engine.specs.declared.Answer.the-variants.{Refused}
 use Rattle.engine.specs.declared.Applied.{Applied}
-use Rattle.engine.specs.Steps.{expiredAll, tooSoon, reopened, isOpen}
+use Rattle.rulings.specs.Steps.{tooSoon, reopened, isOpen}
+use Rattle.engine.specs.Steps.{expiredAll}
 use Rattle.engine.specs.Apply.{answerOf, moved, accepted, refused, ticked, releasedAt, completedAt, byKind, timed, acted, applied}
 use Rattle.engine.proofs.Places.{places, expired-at, expired-past, stored-here, stored-other}
 

@@ -18,7 +18,8 @@ use Rattle.states.specs.declared.State.{State}
 use Rattle.states.specs.State.{recordAt}
 use Rattle.states.specs.Sound.{limit, StateSound, stateHolds}
 use Rattle.engine.specs.declared.Applied.{Applied}
-use Rattle.engine.specs.Steps.{expiredAll, tooSoon, reopened, isOpen}
+use Rattle.rulings.specs.Steps.{tooSoon, reopened, isOpen}
+use Rattle.engine.specs.Steps.{expiredAll}
 use Rattle.engine.specs.Apply.{moved, ticked, releasedAt, completedAt, byKind, timed, acted, applied}
 use Rattle.engine.proofs.Places.{places, expired-at, stored-here, stored-other}
 

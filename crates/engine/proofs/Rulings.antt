@@ -1,11 +1,10 @@
 -- An event is applied as its own task's ruling says: the tests of `acted` and of `ruled` are the same tests in the same order, and a tick is of
 -- the first task, whose record after it is what step 1 leaves.
-use Prim.Native.Nat.{ℕ, _+_, _≤_, _<_}
+use Prim.Native.Nat.{ℕ, _<_}
 use mathlib.Core.Path.{_≡_, refl, sym, ap, _∙_}
 use mathlib.Core.Bool.{Bool, true, false, cond}
-use mathlib.Core.Logic.{_↔_}
 use native.Mathlib.Omega.{arith}
-use borrow.Author.Tests.{eqb-true, eqb-false, lt-ltb, le-ltb, ltb-true, leb-true, leb-false}
+use borrow.Author.Tests.{eqb-true, eqb-false, lt-ltb, leb-true, leb-false}
 use lib.Dec.{eqb, leb, ltb}
 use lib.ListN.{set}
 use lib.Seq.{set-getD}
@@ -15,35 +14,18 @@ use Rattle.events.specs.Event.{faultOf}
 use Rattle.events.proofs.Rules.{judge-0}
 use Rattle.records.specs.declared.Record.{Record}
 use Rattle.records.specs.Closing.{closed}
-use Rattle.records.specs.Opening.{late, expired, opened, noRecord}
+use Rattle.records.specs.Opening.{late, expired, noRecord}
 use Rattle.states.specs.declared.State.{State}
 use Rattle.states.specs.State.{recordAt}
 use Rattle.states.specs.Sound.{limit, StateSound}
 use Rattle.engine.specs.declared.Applied.{Applied}
-use Rattle.engine.specs.declared.Ruling.{Ruling}
-use Rattle.engine.specs.Steps.{expiredAll, tooSoon, reopened, isOpen}
+use Rattle.rulings.specs.declared.Ruling.{Ruling}
+use Rattle.rulings.specs.Steps.{tooSoon, reopened, isOpen}
+use Rattle.engine.specs.Steps.{expiredAll}
 use Rattle.engine.specs.Apply.{accepted, refused, ticked, releasedAt, completedAt, byKind, timed, acted}
-use Rattle.engine.specs.Ruling.{seatOf, barOf, taken, kept, releaseOf, completionOf, ownOf, ruled}
+use Rattle.rulings.specs.Ruling.{seatOf, barOf, taken, kept, releaseOf, completionOf, ownOf, ruled}
+use Rattle.rulings.proofs.Prompt.{closed-prompt, expired-prompt, reopened-prompt}
 use Rattle.engine.proofs.Places.{places, expired-at}
-
--- the seat is one of the places
-pub seat-below : (task count : ℕ) → 1 ≤ count → seatOf task count < count
-seat-below task count h = by-test (λ (k : ℕ). k < count) (ltb task count) task 0 (λ e. ltb-true task count e) (λ e. h)
-
--- ---- after an accepted event its own task's job is not late
-
-closed-prompt : (r : Record) (met : Bool) (t : ℕ) → late (closed r met) t ≡ false
-unfolding closed
-closed-prompt r true t = refl
-closed-prompt r false t = refl
-
-expired-prompt : (r : Record) (t : ℕ) → late (expired r t) t ≡ false
-unfolding expired
-expired-prompt r t = by-test (λ (x : Record). late x t ≡ false) (late r t) _ _ (λ e. closed-prompt r false t) (λ e. e)
-
-reopened-prompt : (r : Record) (t : ℕ) → late (reopened r t) t ≡ false
-unfolding opened
-reopened-prompt r t = le-ltb _ t (omega arith)
 
 module _ (s : State) (e : Event) where
   abbrev t : ℕ

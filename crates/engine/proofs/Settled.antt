@@ -1,8 +1,8 @@
 -- The row after an accepted event, made in place: its own task's record is stored first, then each late record is closed, position by position, and
 -- the best job so far goes with it. It is step 1 on the row as it was and the record stored after it, since that record is not late.
-use Prim.Native.Nat.{ℕ, zero, suc, min, _≤_, _<_}
+use Prim.Native.Nat.{ℕ, suc, min, _≤_, _<_}
 use mathlib.Core.Path.{_≡_, refl, sym, ap, _∙_}
-use mathlib.Core.Bool.{Bool, true, false, cond}
+use mathlib.Core.Bool.{true, false}
 use mathlib.Core.List.{List}
 use native.Mathlib.Decide.{decLt, ℕ-discrete}
 use native.Mathlib.Nat.{le-refl}

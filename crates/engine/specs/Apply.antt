@@ -17,7 +17,8 @@ use Rattle.states.specs.Choice.{chosen}
 use Rattle.engine.specs.declared.Answer.{Answer}
 use Rattle.engine.specs.declared.Answer.the-variants.{Run, Idle, Refused}
 use Rattle.engine.specs.declared.Applied.{Applied}
-use Rattle.engine.specs.Steps.{expiredAll, tooSoon, reopened, isOpen}
+use Rattle.rulings.specs.Steps.{tooSoon, reopened, isOpen}
+use Rattle.engine.specs.Steps.{expiredAll}
 
 -- run with the chosen position and that job's class, or idle
 abbrev pub toldOf : Best → ℕ → Answer

@@ -1,7 +1,6 @@
 -- What the crate's contracts cite, in document 01's order.
 pub mod Steps
 pub mod Apply
-pub mod Ruling
 pub mod Answers
 pub mod Verdict
 pub mod Log

@@ -1,14 +1,14 @@
 // Acting on a sound state, in place: one state is held, so that an event copies nothing but its own task's record.
 use super::Answer;
 use super::Applied;
-use super::judging::rule;
-use super::judging::seat;
 use super::telling::told;
 use events::Event;
 use events::Reading;
 use events::read;
 use records::closing::close;
 use records::opening::is_late;
+use rulings::judging::rule;
+use rulings::judging::seat;
 use states::Best;
 use states::State;
 use states::choice::better_of;

@@ -15,7 +15,7 @@ use Rattle.records.specs.declared.Record.{Record}
 use Rattle.records.specs.Closing.{closed}
 use Rattle.records.specs.Opening.{expired, opened}
 use Rattle.soundness.proofs.Kept.{end}
-use Rattle.engine.specs.Steps.{tooSoon, reopened}
+use Rattle.rulings.specs.Steps.{tooSoon, reopened}
 use Rattle.engine.proofs.Kept.{spaced-by}
 use Rattle.guarantee.specs.History.{Job, closedJob}
 use Rattle.guarantee.proofs.Steps.{closed-idle, cleared, cleared-open, cleared-none, cleared-same, cleared-idle, Expired, over, stays, expiry, expired-same, expired-open}

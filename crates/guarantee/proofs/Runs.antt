@@ -30,7 +30,8 @@ use Rattle.response.specs.Above.{taskAt, isAbove}
 use Rattle.response.proofs.Order.{above-tells}
 use Rattle.response.proofs.Obeyed.{deadline-most}
 use Rattle.engine.specs.declared.Applied.{Applied}
-use Rattle.engine.specs.Steps.{expiredAll, tooSoon, reopened}
+use Rattle.rulings.specs.Steps.{tooSoon, reopened}
+use Rattle.engine.specs.Steps.{expiredAll}
 use Rattle.engine.specs.Apply.{accepted, applied}
 use Rattle.guarantee.specs.History.{stateAfter, recordAfter, accepts, isAccepted, jobsOf}
 use Rattle.guarantee.specs.ChosenTime.{isChoice, openTime}

@@ -9,7 +9,7 @@ use Rattle.laws.proofs.Tests.{true-not-false, both-hold}
 use Rattle.records.specs.declared.Record.{Record}
 use Rattle.records.specs.Closing.{closed}
 use Rattle.records.specs.Opening.{expired}
-use Rattle.engine.specs.Steps.{isOpen}
+use Rattle.rulings.specs.Steps.{isOpen}
 
 -- what a step does not touch
 pub record Same (r q : Record) : Type 0 where

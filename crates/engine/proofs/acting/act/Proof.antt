@@ -12,9 +12,10 @@ use Rattle.events.specs.Record.{readRecord}
 use Rattle.records.specs.Opening.{expired, noRecord}
 use Rattle.states.specs.declared.State.{State}
 use Rattle.states.proofs.Least.{best-within}
+use Rattle.rulings.proofs.Prompt.{seat-below}
 use Rattle.engine.specs.declared.Applied.{Applied}
 use Rattle.engine.specs.Apply.{moved, acted, applied}
-use Rattle.engine.proofs.Rulings.{seat-below, Decides, refused-by, accepted-by, decided}
+use Rattle.engine.proofs.Rulings.{Decides, refused-by, accepted-by, decided}
 use Rattle.engine.proofs.Runs.{sound-acts, Going, going-none, going-more, going-stop}
 use Rattle.engine.proofs.Settled.{Settling, settling-none, settling-more, late-closed, prompt-stays, settled-accepted}
 use Rattle.engine.proofs.acting.act.Statement.{statement}

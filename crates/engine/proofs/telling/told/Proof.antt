@@ -1,5 +1,4 @@
 -- `telling::told` meets its contract, by the same test.
-use borrow.Author.Needs.{needs}
 use Rattle.engine.proofs.telling.told.Statement.{statement}
 use Rattle.engine.proofs.telling.told.Tie as tie
 

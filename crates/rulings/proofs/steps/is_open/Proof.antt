@@ -1,7 +1,7 @@
 -- `steps::is_open` meets its contract, by whether a job is open.
 use borrow.Author.Needs.{needs}
-use Rattle.engine.proofs.steps.is_open.Statement.{statement}
-use Rattle.engine.proofs.steps.is_open.Tie as tie
+use Rattle.rulings.proofs.steps.is_open.Statement.{statement}
+use Rattle.rulings.proofs.steps.is_open.Tie as tie
 
 returns : tie.Need-returns
 returns c = rw (c .before .if1 .taken)

@@ -1,10 +1,10 @@
 -- `judging::bar` meets its contract: `barOf` goes by the same tests.
 use mathlib.Core.Path.{sym, _∙_}
 use borrow.Author.Tests.{eq-eqb, ne-eqb, lt-ltb, le-ltb, le-leb, lt-leb}
-use Rattle.engine.specs.Ruling.{barOf}
+use Rattle.rulings.specs.Ruling.{barOf}
 use borrow.Author.Needs.{needs}
-use Rattle.engine.proofs.judging.bar.Statement.{statement}
-use Rattle.engine.proofs.judging.bar.Tie as tie
+use Rattle.rulings.proofs.judging.bar.Statement.{statement}
+use Rattle.rulings.proofs.judging.bar.Tie as tie
 
 judge-requires : tie.Need-judge-requires
 judge-requires c κs = search needs

@@ -1,8 +1,8 @@
 -- `steps::reopen` meets its contract, by whether a job is still open.
 use mathlib.Core.Path.{_∙_}
 use borrow.Author.Needs.{needs}
-use Rattle.engine.proofs.steps.reopen.Statement.{statement}
-use Rattle.engine.proofs.steps.reopen.Tie as tie
+use Rattle.rulings.proofs.steps.reopen.Statement.{statement}
+use Rattle.rulings.proofs.steps.reopen.Tie as tie
 
 close-requires : tie.Need-close-requires
 close-requires c κs = search needs

@@ -1,10 +1,10 @@
 -- `judging::own_of` meets its contract: `ownOf` goes by the same tests.
 use mathlib.Core.Path.{_∙_}
 use borrow.Author.Tests.{eq-eqb, ne-eqb}
-use Rattle.engine.specs.Ruling.{ownOf}
+use Rattle.rulings.specs.Ruling.{ownOf}
 use borrow.Author.Needs.{needs}
-use Rattle.engine.proofs.judging.own_of.Statement.{statement}
-use Rattle.engine.proofs.judging.own_of.Tie as tie
+use Rattle.rulings.proofs.judging.own_of.Statement.{statement}
+use Rattle.rulings.proofs.judging.own_of.Tie as tie
 
 expire-requires : tie.Need-expire-requires
 expire-requires c κs = search needs

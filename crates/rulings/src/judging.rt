@@ -9,7 +9,7 @@ use records::Record;
 use records::closing::close;
 use records::opening::expire;
 ghost use mathlib.Core.Path.{_≡_};
-ghost use Rattle.engine.specs.Ruling.{seatOf, barOf, releaseOf, completionOf, ownOf, ruled};
+ghost use Rattle.rulings.specs.Ruling.{seatOf, barOf, releaseOf, completionOf, ownOf, ruled};
 
 // Where the event's task stands; the first place is looked at where there is no such task.
 pub fn seat(task: u8, count: usize) -> usize

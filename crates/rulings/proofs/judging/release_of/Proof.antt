@@ -1,11 +1,8 @@
 -- `judging::release_of` meets its contract: 11 is told of the record after step 1.
-use mathlib.Core.Path.{sym, ap, _∙_}
-use Rattle.records.specs.declared.Record.{Record}
-use Rattle.engine.specs.Steps.{tooSoon, reopened}
-use Rattle.engine.specs.Ruling.{releaseOf}
+use Rattle.rulings.specs.Ruling.{releaseOf}
 use borrow.Author.Needs.{needs}
-use Rattle.engine.proofs.judging.release_of.Statement.{statement}
-use Rattle.engine.proofs.judging.release_of.Tie as tie
+use Rattle.rulings.proofs.judging.release_of.Statement.{statement}
+use Rattle.rulings.proofs.judging.release_of.Tie as tie
 
 expire-requires : tie.Need-expire-requires
 expire-requires c κs = search needs

@@ -1,7 +1,7 @@
 -- `judging::seat` meets its contract, by the same test.
 use borrow.Author.Tests.{lt-ltb, le-ltb}
-use Rattle.engine.proofs.judging.seat.Statement.{statement}
-use Rattle.engine.proofs.judging.seat.Tie as tie
+use Rattle.rulings.proofs.judging.seat.Statement.{statement}
+use Rattle.rulings.proofs.judging.seat.Tie as tie
 
 returns : tie.Need-returns
 returns c = rw (lt-ltb _ _ (c .if1 .taken))

@@ -8,8 +8,8 @@ use Rattle.records.specs.declared.Record.{Record}
 use Rattle.records.specs.Closing.{closed}
 use Rattle.records.specs.Opening.{expired}
 use Rattle.states.specs.Sound.{limit}
-use Rattle.engine.specs.declared.Ruling.{Ruling}
-use Rattle.engine.specs.Steps.{tooSoon, reopened, isOpen}
+use Rattle.rulings.specs.declared.Ruling.{Ruling}
+use Rattle.rulings.specs.Steps.{tooSoon, reopened, isOpen}
 
 -- where the event's task stands, or the first place where there is no such task
 abbrev pub seatOf : ℕ → ℕ → ℕ

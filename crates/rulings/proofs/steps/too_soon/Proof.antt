@@ -4,8 +4,8 @@ use native.Mathlib.Omega.{arith}
 use borrow.Author.Tests.{eq-eqb, ne-eqb, lt-ltb}
 use borrow.Author.Needs.{needs}
 use Rattle.laws.proofs.Tests.{under-less}
-use Rattle.engine.proofs.steps.too_soon.Statement.{statement}
-use Rattle.engine.proofs.steps.too_soon.Tie as tie
+use Rattle.rulings.proofs.steps.too_soon.Statement.{statement}
+use Rattle.rulings.proofs.steps.too_soon.Tie as tie
 
 returns : tie.Need-returns
 returns c = rw (eq-eqb _ _ (c .if1 .taken))

@@ -3,7 +3,7 @@ use records::Record;
 use records::closing::close;
 use records::opening::release;
 ghost use mathlib.Core.Path.{_≡_};
-ghost use Rattle.engine.specs.Steps.{tooSoon, reopened, isOpen};
+ghost use Rattle.rulings.specs.Steps.{tooSoon, reopened, isOpen};
 
 // 11, without the sum of last release and T.
 pub fn too_soon(of: Record, time: u64) -> bool

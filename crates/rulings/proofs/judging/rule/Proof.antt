@@ -1,10 +1,10 @@
 -- `judging::rule` meets its contract: what bars the event comes first.
-use mathlib.Core.Path.{sym, _∙_}
+use mathlib.Core.Path.{_∙_}
 use borrow.Author.Tests.{eq-eqb, ne-eqb}
-use Rattle.engine.specs.Ruling.{ruled}
+use Rattle.rulings.specs.Ruling.{ruled}
 use borrow.Author.Needs.{needs}
-use Rattle.engine.proofs.judging.rule.Statement.{statement}
-use Rattle.engine.proofs.judging.rule.Tie as tie
+use Rattle.rulings.proofs.judging.rule.Statement.{statement}
+use Rattle.rulings.proofs.judging.rule.Tie as tie
 
 bar-requires : tie.Need-bar-requires
 bar-requires c κs = search needs

@@ -1,11 +1,8 @@
 -- `judging::completion_of` meets its contract: 12 is told of the record after step 1.
-use mathlib.Core.Path.{sym, ap, _∙_}
-use Rattle.records.specs.declared.Record.{Record}
-use Rattle.engine.specs.Steps.{isOpen}
-use Rattle.engine.specs.Ruling.{completionOf}
+use Rattle.rulings.specs.Ruling.{completionOf}
 use borrow.Author.Needs.{needs}
-use Rattle.engine.proofs.judging.completion_of.Statement.{statement}
-use Rattle.engine.proofs.judging.completion_of.Tie as tie
+use Rattle.rulings.proofs.judging.completion_of.Statement.{statement}
+use Rattle.rulings.proofs.judging.completion_of.Tie as tie
 
 expire-requires : tie.Need-expire-requires
 expire-requires c κs = search needs

@@ -1,0 +1,2 @@
+-- What is shown of rulings beside the functions' contracts.
+pub mod Prompt
