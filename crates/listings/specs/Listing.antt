@@ -1,0 +1,92 @@
+-- Document 01, "The listing": one byte n, then n table records, then events; and what is printed of them, in order.
+use Prim.Native.Nat.{ℕ, zero, suc, _+_, _*_}
+use mathlib.Core.Bool.{Bool, cond}
+use mathlib.Core.List.{List, [], _∷_, _++_}
+use lib.Dec.{leb, ltb}
+use lib.ListN.{length, getD, take, drop}
+use Rattle.laws.specs.Tests.{allOf}
+use Rattle.tables.specs.declared.Table.{Table}
+use Rattle.tables.specs.declared.Answer.{Answer}
+use Rattle.tables.specs.declared.Answer.the-variants.{Accepted, Refused}
+use Rattle.tables.specs.Rules.{noTask}
+use Rattle.table_bytes.specs.declared.TableRead.{TableRead}
+use Rattle.table_bytes.specs.Reading.{readTable}
+use Rattle.bounds.specs.Asked.{oneAnswer}
+use Rattle.events.specs.declared.Event.{Event}
+use Rattle.events.specs.declared.Reading.{Reading}
+use Rattle.events.specs.declared.Reading.the-variants as R
+use Rattle.events.specs.Record.{readRecord}
+use Rattle.events.specs.Log.{readable, restOf, eventsOf}
+use Rattle.states.specs.declared.State.{State}
+use Rattle.states.specs.State.{recordAt, freshState}
+use Rattle.engine.specs.Apply.{applied}
+use Rattle.lines.specs.Lines.{tooLong, refusedLine, taskLine, eventLine, stopLine, lastLine}
+
+-- one line per task: the first n of a table
+unfoldable pub taskLines : Table → ℕ → List ℕ
+taskLines t zero = []
+taskLines t (suc n) = taskLines t n ++ taskLine n (getD (t .tasks) n noTask) (oneAnswer t n)
+
+-- one line per event in order from number i, refused ones included
+unfoldable pub eventLines : ℕ → State → List Event → List ℕ
+eventLines i s [] = []
+eventLines i s (e ∷ es) = eventLine i (applied s e .answer) ++ eventLines (i + 1) (applied s e .state) es
+
+-- the state after the events
+unfoldable pub stateAfter : State → List Event → State
+stateAfter s [] = s
+stateAfter s (e ∷ es) = stateAfter (applied s e .state) es
+
+-- `stop N at O` if a record does not read
+abbrev pub stopBy : Reading → ℕ → List ℕ
+stopBy (R.Event e) offset = []
+stopBy R.End offset = []
+stopBy (R.Refused n) offset = stopLine n offset
+
+-- O counts from the first event byte
+unfoldable pub stopText : List ℕ → List ℕ
+stopText log = stopBy (readRecord (restOf log)) (20 * readable log)
+
+-- then one line per task: the first n of a state
+unfoldable pub lastLines : State → ℕ → List ℕ
+lastLines s zero = []
+lastLines s (suc n) = lastLines s n ++ lastLine n (recordAt s n)
+
+-- the listing of a table that is accepted, and of its events
+unfoldable pub tableListing : Table → List ℕ → List ℕ
+tableListing t log =
+    taskLines t (t .count)
+    ++ (eventLines 1 (freshState t) (eventsOf log)
+    ++ (stopText log ++ lastLines (stateAfter (freshState t) (eventsOf log)) (t .count)))
+
+-- a refused table prints only `table refused N at P`
+abbrev pub listedBy : Answer → Table → List ℕ → List ℕ
+listedBy Accepted t log = tableListing t log
+listedBy (Refused n p) t log = refusedLine n p
+
+unfoldable pub listed : TableRead → List ℕ → List ℕ
+listed r log = listedBy (r .answer) (r .table) log
+
+-- the first byte
+abbrev pub countByte : List ℕ → ℕ
+countByte s = getD s 0 0
+
+-- n is 1 to 16, and n table records are there
+abbrev pub tableThere : List ℕ → Bool
+tableThere s = allOf (leb 1 (countByte s) ∷ leb (countByte s) 16 ∷ leb (1 + 16 * countByte s) (length s) ∷ [])
+
+-- where the events begin; 0 where the table is not there
+abbrev pub eventsFrom : List ℕ → ℕ
+eventsFrom s = cond (tableThere s) (1 + 16 * countByte s) 0
+
+abbrev pub tableBytes : List ℕ → List ℕ
+tableBytes s = take (16 * countByte s) (drop 1 s)
+
+abbrev pub eventBytes : List ℕ → List ℕ
+eventBytes s = drop (1 + 16 * countByte s) s
+
+-- missing or short table bytes, or n outside 1 to 16, are refusal 1; over 65,536 bytes it prints only `input too long`
+unfoldable pub listingOf : List ℕ → List ℕ
+listingOf s =
+    cond (ltb 65536 (length s)) tooLong
+    (cond (tableThere s) (listed (readTable (tableBytes s)) (eventBytes s)) (refusedLine 1 0))

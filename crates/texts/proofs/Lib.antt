@@ -1,0 +1,3 @@
+-- What is shown of texts beside the functions' contracts.
+pub mod Decimals
+pub mod Sheets

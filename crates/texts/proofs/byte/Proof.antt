@@ -1,0 +1,26 @@
+-- `texts::byte` meets its contract: the byte is stored, or there is no room for it.
+use borrow.Author.Tests.{lt-ltb, le-ltb}
+use borrow.Author.Needs.{needs}
+use Rattle.texts.specs.Sheet.{put}
+use Rattle.texts.proofs.byte.Statement.{statement}
+use Rattle.texts.proofs.byte.Tie as tie
+
+slice-write-out : tie.Need-slice-write-out
+slice-write-out c = search needs
+
+add-result : tie.Need-add-result
+add-result c = search needs
+
+same-length : tie.Need-same-length
+same-length c = search needs
+
+returns : tie.Need-returns
+unfolding put
+returns c = rw (lt-ltb _ _ (c .if1 .taken))
+
+returns-2 : tie.Need-returns-2
+unfolding put
+returns-2 c = rw (le-ltb _ _ (c .if1 .left))
+
+pub byte-spec : {M : Type 1} → statement M
+byte-spec = tie.close (tie.spec slice-write-out add-result same-length returns returns-2)
