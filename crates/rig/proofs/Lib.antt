@@ -1,0 +1,4 @@
+-- What is shown of the rig's code beside the functions' contracts.
+pub mod Answers
+pub mod Starts
+pub mod Cases
