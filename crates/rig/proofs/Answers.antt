@@ -1,43 +1,87 @@
--- What a log answers is one of 16 tasks, none, or a refusal: each answer of the engine is a choice among 16 places, by every way an event can go.
+-- What an event of a log can be answered in a run: one of 16 tasks, none, or 9 to 12. 15 is out because every event keeps a sound state
+-- sound, 7 and 8 because what reads obeys the rules.
 use Prim.Native.Nat.{ℕ, min}
+use mathlib.Core.Path.{_≡_}
+use mathlib.Core.Bool.{true}
 use mathlib.Core.List.{List, [], _∷_}
 use native.Mathlib.Omega.{arith}
+use borrow.Author.Tests.{eq-eqb}
+use lib.Dec.{eqb, leb, ltb}
 use lib.ListN.{set}
-use Rattle.laws.proofs.Tests.{by-test}
+use Rattle.laws.proofs.Tests.{by-test, tells-true}
 use Rattle.events.specs.declared.Event.{Event}
-use Rattle.events.specs.Log.{eventsOf}
+use Rattle.events.specs.Event.{faultOf}
+use Rattle.events.specs.Log.{eventsIn, eventsOf}
+use Rattle.events.proofs.Rules.{judge-0}
+use Rattle.events.proofs.Records.{by-records}
+use Rattle.records.specs.Closing.{closed}
+use Rattle.records.specs.Opening.{expired}
 use Rattle.states.specs.declared.State.{State}
-use Rattle.states.specs.Sound.{stateHolds}
+use Rattle.states.specs.State.{recordAt}
+use Rattle.states.specs.Sound.{limit, StateSound}
 use Rattle.states.specs.Choice.{chosen}
 use Rattle.states.proofs.Least.{found-below}
-use Rattle.engine.specs.declared.Answer.{Answer}
+use Rattle.states.proofs.Sounding.{state-tells}
 use Rattle.engine.specs.declared.Applied.{Applied}
-use Rattle.engine.specs.Steps.{expiredAll}
-use Rattle.engine.specs.Apply.{answerOf, moved, applied}
+use Rattle.engine.specs.Steps.{expiredAll, tooSoon, reopened, isOpen}
+use Rattle.engine.specs.Apply.{answerOf, moved, ticked, releasedAt, completedAt, byKind, timed, acted, applied}
 use Rattle.engine.specs.Log.{standing, ranOver, ran}
-use Rattle.engine.proofs.Frame.{by-ways}
-use Rattle.rig.specs.Code.{Placed}
+use Rattle.engine.proofs.Kept.{applied-sound}
+use Rattle.rig.specs.Code.{Said}
 
-answer-placed : (s : State) → Placed (answerOf s)
-answer-placed s =
-    by-test Placed (chosen s .found) _ _ (λ f. let b = found-below (s .records) (min (s .count) 16) f in omega (arith, b)) (λ f. tt)
+answer-said : (s : State) → Said (answerOf s)
+answer-said s =
+    by-test Said (chosen s .found) _ _ (λ f. let b = found-below (s .records) (min (s .count) 16) f in omega (arith, b)) (λ f. tt)
 
-applied-placed : (s : State) (e : Event) → Placed (applied s e .answer)
-applied-placed s e =
-    by-ways s e (λ (a : Applied). Placed (a .answer))
-    (record {
-      none = λ n. tt;
-      tick = answer-placed (moved s (e .time) (expiredAll s (e .time)));
-      one = λ x b c. answer-placed (moved s (e .time) (set (expiredAll s (e .time)) (e .task) x));
-    }
-    )
+-- ---- one event
 
-over-placed : (a : Applied) (es : List Event) → Placed (a .answer) → Placed (ranOver a es .answer)
-unfolding ranOver
-over-placed a [] p = p
-over-placed a (e ∷ es) p = over-placed (applied (a .state) e) es (applied-placed (a .state) e)
+module _ (s : State) (e : Event) where
+  Fine : Applied → Type 0
+  Fine a = Said (a .answer)
 
-pub ran-placed : (s : State) (log : List ℕ) → Placed (ran s log .answer)
+  kind-said : Said (byKind s e .answer)
+  unfolding byKind ticked releasedAt completedAt Fine
+  kind-said =
+      let one = expired (recordAt s (e .task)) (e .time) in
+      let l = expiredAll s (e .time) in
+      by-test Fine (eqb (e .kind) 0) _ _ (λ q. answer-said (moved s (e .time) l))
+      (λ q.
+      by-test Fine (eqb (e .kind) 1) _ _
+      (λ r.
+      by-test Fine (leb (s .count) (e .task)) _ _ (λ b. omega arith)
+      (λ b.
+      by-test Fine (tooSoon one (e .time)) _ _ (λ f. omega arith)
+      (λ f. answer-said (moved s (e .time) (set l (e .task) (reopened one (e .time)))))))
+      (λ r.
+      by-test Fine (leb (s .count) (e .task)) _ _ (λ b. omega arith)
+      (λ b.
+      by-test Fine (isOpen one (e .job)) _ _ (λ f. answer-said (moved s (e .time) (set l (e .task) (closed one true)))) (λ f. omega arith))))
+
+  applied-said : StateSound s → faultOf e ≡ 0 → Said (applied s e .answer)
+  unfolding applied acted timed Fine
+  applied-said p z =
+      rw (tells-true (state-tells s) p, eq-eqb (faultOf e) 0 z)
+      (by-test Fine (ltb limit (e .time)) _ _ (λ a. omega arith)
+      (λ a. by-test Fine (ltb (e .time) (s .clock)) _ _ (λ b. omega arith) (λ b. kind-said)))
+
+-- ---- the events of a log
+
+AllRuled : List Event → Type 0
+AllRuled [] = Unit
+AllRuled (e ∷ es) = (faultOf e ≡ 0) × AllRuled es
+
+all-ruled : (log : List ℕ) → AllRuled (eventsOf log)
+unfolding AllRuled eventsIn
+all-ruled =
+    by-records (λ s. AllRuled (eventsOf s)) (λ s t. rw (t .none) tt)
+    (λ s g h. rw (g .counts) (judge-0 _ .1 (g .ruled), h))
+
+over-said : (a : Applied) (es : List Event) → AllRuled es → StateSound (a .state) → Said (a .answer) → Said (ranOver a es .answer)
+unfolding ranOver AllRuled
+over-said a [] r s p = p
+over-said a (e ∷ es) r s p =
+    over-said (applied (a .state) e) es (r .1) (applied-sound (a .state) s e) (applied-said (a .state) e s (r .0))
+
+pub ran-said : (s : State) (log : List ℕ) → StateSound s → Said (ran s log .answer)
 unfolding ran
-ran-placed s log =
-    by-test (λ (a : Applied). Placed (a .answer)) (stateHolds s) _ _ (λ h. over-placed (standing s) (eventsOf log) (answer-placed s)) (λ h. tt)
+ran-said s log p = rw (tells-true (state-tells s) p) (over-said (standing s) (eventsOf log) (all-ruled log) p (answer-said s))

@@ -1,5 +1,5 @@
 -- Document 01, the bench rig: table bytes and log bytes give one number for the last event.
-use Prim.Native.Nat.{ℕ, _+_, _<_}
+use Prim.Native.Nat.{ℕ, _+_, _≤_, _<_}
 use mathlib.Core.Bool.{cond}
 use mathlib.Core.List.{List}
 use lib.Dec.{ltb}
@@ -37,11 +37,11 @@ ofAnswer (A.Run p c) = chosen p
 ofAnswer A.Idle = none
 ofAnswer (A.Refused n) = refused n
 
--- what is chosen is one of 16 tasks
-abbrev pub Placed : Answer → Type 0
-Placed (A.Run p c) = p < 16
-Placed A.Idle = Unit
-Placed (A.Refused n) = Unit
+-- what an event that reads is answered in a run: one of 16 tasks, none, or 9 to 12
+abbrev pub Said : Answer → Type 0
+Said (A.Run p c) = p < 16
+Said A.Idle = Unit
+Said (A.Refused n) = (9 ≤ n) × (n ≤ 12)
 
 -- a reading refusal goes before it
 abbrev pub afterReading : Reading → Case → Case

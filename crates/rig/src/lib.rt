@@ -4,7 +4,8 @@ use events::Reading;
 use states::State;
 ghost use mathlib.Core.Path.{_≡_};
 ghost use Prim.Native.Nat.{_+_};
-ghost use Rattle.rig.specs.Code.{codeFor, ofAnswer, Placed, logCase, codeOf};
+ghost use Rattle.states.specs.Sound.{StateSound};
+ghost use Rattle.rig.specs.Code.{codeFor, ofAnswer, Said, logCase, codeOf};
 
 // 32 + N for refusal N.
 fn refusal(number: u8) -> u32
@@ -15,7 +16,7 @@ fn refusal(number: u8) -> u32
 
 // The chosen task, 16 for none, or the refusal.
 fn code_of(answer: Answer) -> u32
-    requires { ⌜ Placed answer ⌝ }
+    requires { ⌜ Said answer ⌝ }
     ensures { λ r. ⌜ r ≡ codeFor (ofAnswer answer) ⌝ }
 {
     match answer {
@@ -30,6 +31,7 @@ fn code_of(answer: Answer) -> u32
 
 // What ended the reading, and then the last event's answer.
 fn log_code(state: State, log: &[u8]) -> u32
+    requires { ⌜ StateSound state ⌝ }
     ensures { λ r. ⌜ r ≡ codeFor (logCase state (now (log .entry))) ⌝ }
 {
     let left = events::rest(log);

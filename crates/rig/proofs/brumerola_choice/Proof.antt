@@ -1,12 +1,16 @@
 -- `brumerola_choice` meets its contract: the length, then the table, then the log on the fresh state of a table that has no refusal of its own.
-use mathlib.Core.Path.{sym, ap, _∙_}
+use Prim.Native.Nat.{ℕ}
+use mathlib.Core.Path.{_≡_, sym, ap, _∙_}
+use mathlib.Core.List.{List}
 use borrow.Author.Needs.{needs}
+use Rattle.tables.specs.declared.Answer.the-variants.{Accepted}
 use Rattle.table_bytes.specs.declared.TableRead.{TableRead}
+use Rattle.table_bytes.specs.Reading.{readTable}
 use Rattle.states.specs.declared.Started.{Started}
 use Rattle.states.specs.declared.State.{State}
-use Rattle.states.specs.State.{started}
+use Rattle.states.specs.State.{freshState, started}
 use Rattle.rig.specs.Code.{codeFor, logCase, codeOf}
-use Rattle.rig.proofs.Starts.{start-fresh}
+use Rattle.rig.proofs.Starts.{start-fresh, begins-sound}
 use Rattle.rig.proofs.Cases.{case-long, case-table, case-log}
 use Rattle.rig.proofs.brumerola_choice.Statement.{statement}
 use Rattle.rig.proofs.brumerola_choice.Tie as tie
@@ -41,19 +45,30 @@ enum-told c = search needs
 start-requires : tie.Need-start-requires
 start-requires c κs = search needs
 
+-- the table's bytes
+abbrev bytes : tie.After-start → List ℕ
+bytes c = c .before .before .before .before .before .before .before .args .table .now
+
+-- which are read
+told : (c : tie.After-start) → readTable (bytes c) .answer ≡ Accepted
+told c = ap (λ (x : TableRead). x .answer) (sym (c .before .before .before .read .ensures)) ∙ c .before .enum-told .given .1
+
+-- so the state is the fresh one
+begun : (c : tie.After-start) → c .start .result .state ≡ freshState (readTable (bytes c) .table)
+begun c =
+    ap (λ (x : Started). x .state) (c .start .ensures)
+    ∙ ap (λ (x : TableRead). started (x .table) .state) (c .before .before .before .read .ensures) ∙ start-fresh (bytes c) (told c)
+
 log-code-requires : tie.Need-log-code-requires
-log-code-requires c κs = search needs
+log-code-requires c κs = rw (begun c) (begins-sound (bytes c) (told c))
 
 returns-3 : tie.Need-returns-3
 unfolding codeOf
 returns-3 c =
     let r = c .before .before .before .before in
     let a = r .before .before .before .before .args in
-    let e = ap (λ (x : TableRead). x .answer) (sym (r .read .ensures)) ∙ c .before .before .enum-told .given .1 in
-    let b = ap (λ (x : Started). x .state) (c .before .start .ensures)
-    ∙ ap (λ (x : TableRead). started (x .table) .state) (r .read .ensures) ∙ start-fresh (a .table .now) e in
-    c .log-code .ensures ∙ ap (λ (s : State). codeFor (logCase s (a .log .now))) b
-    ∙ sym (ap codeFor (case-log (a .table .now) (a .log .now) (r .before .if1 .left) e))
+    c .log-code .ensures ∙ ap (λ (s : State). codeFor (logCase s (a .log .now))) (begun (c .before))
+    ∙ sym (ap codeFor (case-log (a .table .now) (a .log .now) (r .before .if1 .left) (told (c .before))))
 
 pub brumerola-choice-spec : {M : Type 1} → statement M
 brumerola-choice-spec =

@@ -5,8 +5,8 @@ use native.Mathlib.Omega.{arith}
 use borrow.Author.Needs.{needs}
 use Rattle.events.specs.Record.{readRecord}
 use Rattle.engine.specs.declared.Applied.{Applied}
-use Rattle.rig.specs.Code.{codeFor, ofAnswer, Placed}
-use Rattle.rig.proofs.Answers.{ran-placed}
+use Rattle.rig.specs.Code.{codeFor, ofAnswer}
+use Rattle.rig.proofs.Answers.{ran-said}
 use Rattle.rig.proofs.Cases.{case-stopped, case-ended}
 use Rattle.rig.proofs.log_code.Statement.{statement}
 use Rattle.rig.proofs.log_code.Tie as tie
@@ -36,8 +36,8 @@ run-requires c κs = search needs
 
 code-of-requires : tie.Need-code-of-requires
 code-of-requires c κs =
-    let a = c .before .before .before .before .before .args in
-    rw (c .run .ensures) (ran-placed (a .state) (a .log .now))
+    let r = c .before .before .before .before .before in
+    rw (c .run .ensures) (ran-said (r .args .state) (r .args .log .now) (r .pre))
 
 returns-2 : tie.Need-returns-2
 returns-2 c =
