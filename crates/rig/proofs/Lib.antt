@@ -2,3 +2,5 @@
 pub mod Answers
 pub mod Starts
 pub mod Cases
+pub mod Exactly
+pub mod Told

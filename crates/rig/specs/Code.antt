@@ -1,8 +1,8 @@
 -- Document 01, the bench rig: table bytes and log bytes give one number for the last event.
-use Prim.Native.Nat.{ℕ, _+_, _≤_, _<_}
+use Prim.Native.Nat.{ℕ, _+_, _-_, _≤_, _<_}
 use mathlib.Core.Bool.{cond}
 use mathlib.Core.List.{List}
-use lib.Dec.{ltb}
+use lib.Dec.{eqb, ltb}
 use lib.ListN.{length}
 use Rattle.tables.specs.declared.Answer as D
 use Rattle.tables.specs.declared.Answer.the-variants as T
@@ -30,6 +30,10 @@ codeFor (chosen p) = p
 codeFor none = 16
 codeFor (refused n) = 32 + n
 codeFor too-long = 64
+
+-- and what a caller makes of the number: `code-told` shows that it is the case that was meant
+abbrev pub caseFor : ℕ → Case
+caseFor x = cond (ltb x 16) (chosen x) (cond (eqb x 16) none (cond (eqb x 64) too-long (refused (x - 32))))
 
 -- the last event's answer
 abbrev pub ofAnswer : Answer → Case
