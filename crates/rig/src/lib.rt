@@ -3,7 +3,7 @@ use engine::Answer;
 use events::Reading;
 use states::State;
 ghost use mathlib.Core.Path.{_≡_};
-ghost use Prim.Native.Nat.{_+_};
+ghost use Prim.Native.Nat.{_+_, _<_};
 ghost use Rattle.states.specs.Sound.{StateSound};
 ghost use Rattle.rig.specs.Code.{codeFor, ofAnswer, Said, logCase, codeOf};
 
@@ -12,6 +12,14 @@ fn refusal(number: u8) -> u32
     ensures { λ r. ⌜ r ≡ 32 + number ⌝ }
 {
     32 + (number as u32)
+}
+
+// 0 to 15 the chosen task.
+fn place(position: usize) -> u32
+    requires { ⌜ position < 16 ⌝ }
+    ensures { λ r. ⌜ r ≡ position ⌝ }
+{
+    position as u32
 }
 
 // The chosen task, 16 for none, or the refusal.
@@ -23,7 +31,7 @@ fn code_of(answer: Answer) -> u32
         Answer::Run {
             position: p,
             class: _,
-        } => p as u32,
+        } => place(p),
         Answer::Idle => 16,
         Answer::Refused(n) => refusal(n),
     }
@@ -35,8 +43,8 @@ fn log_code(state: State, log: &[u8]) -> u32
     ensures { λ r. ⌜ r ≡ codeFor (logCase state (now (log .entry))) ⌝ }
 {
     let left = events::rest(log);
-    if let Reading::Refused(n) = events::read(left) {
-        return refusal(n);
+    if let Reading::Refused(fault) = events::read(left) {
+        return refusal(fault);
     }
     let ran = engine::log::run(state, log);
     let said = ran.answer;
@@ -53,10 +61,10 @@ pub extern "C" fn brumerola_choice(table: &[u8], log: &[u8]) -> u32
     let read = table_bytes::reading::read(table);
     let answer = read.answer;
     if let tables::Answer::Refused {
-        number: n,
+        number: number,
         position: _,
     } = answer {
-        return refusal(n);
+        return refusal(number);
     }
     let begun = states::fresh::start(read.table);
     log_code(begun.state, log)

@@ -1,4 +1,4 @@
--- `code_of` meets its contract: a chosen place is below 16, so that it fits.
+-- `code_of` meets its contract: a chosen place is below 16.
 use native.Mathlib.Omega.{arith}
 use borrow.Author.Needs.{needs}
 use Rattle.rig.proofs.code_of.Statement.{statement}
@@ -7,8 +7,8 @@ use Rattle.rig.proofs.code_of.Tie as tie
 enum-known-answer : tie.Need-enum-known-answer
 enum-known-answer c = search needs
 
-cast-result : tie.Need-cast-result
-cast-result c =
+place-requires : tie.Need-place-requires
+place-requires c κs =
     let below = rw (c .before .answer .given .1) at (c .before .before .before .pre) in
     omega (arith, below)
 
@@ -35,7 +35,7 @@ code-of-spec =
     tie.close
     (tie.spec
     enum-known-answer
-    cast-result
+    place-requires
     enum-told
     enum-known-answer-2
     refusal-requires

@@ -17,8 +17,8 @@ rest-requires c κs = search needs
 read-requires : tie.Need-read-requires
 read-requires c κs = search needs
 
-enum-known-n : tie.Need-enum-known-n
-enum-known-n c = search needs
+enum-known-fault : tie.Need-enum-known-fault
+enum-known-fault c = search needs
 
 refusal-requires : tie.Need-refusal-requires
 refusal-requires c κs = search needs
@@ -27,7 +27,7 @@ returns : tie.Need-returns
 returns c =
     let r = c .before .before .before .before in
     let a = r .before .before .before .args in
-    let g = c .before .before .n .given in
+    let g = c .before .before .fault .given in
     let e = ap readRecord (sym (r .before .rest .ensures)) ∙ sym (r .read .ensures) ∙ g .1 in
     c .refusal .ensures ∙ sym (ap codeFor (case-stopped (a .state) (a .log .now) (g .0 .0) e))
 
@@ -54,7 +54,7 @@ log-code-spec =
     (tie.spec
     rest-requires
     read-requires
-    enum-known-n
+    enum-known-fault
     refusal-requires
     returns
     run-requires
