@@ -36,7 +36,8 @@ extern "C" {
  *
  * Of the caller it asks that table and log each point to as many readable bytes as their size says, and that nothing writes to them during the call.
  * Where a size is 0 the pointer is not read through: it may be NULL. The two may overlap, and need no alignment. Every content and every size is
- * lawful. Nothing is written, nothing is kept between calls, and no library is called, so any number of threads may call it.
+ * lawful. Nothing is written and nothing is kept between calls, so any number of threads may call it. It calls memcpy alone, and 64 KiB of stack are
+ * enough for it.
  */
 uint32_t brumerola_choice(const uint8_t *table, size_t table_size, const uint8_t *log, size_t log_size);
 

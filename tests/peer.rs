@@ -925,7 +925,7 @@ fn damage_log(r: &mut Random, log: &mut Vec<u8>) {
 
 // The log filled up with ticks at its end to a size near the limit.
 fn lengthen(r: &mut Random, log: &mut Vec<u8>, beside: usize) {
-    let size = MOST + r.of(&[0, 0, 1, 2, 20, 400]) - r.of(&[0, 0, beside]);
+    let size = MOST + r.of(&[0, 0, 1, 2, 20, 400]) - r.of(&[0, beside]);
     let tick = Event { kind: 0, task: 0, job: 0, time: LIMIT }.record();
     while log.len() < size {
         log.extend_from_slice(&tick);
@@ -940,7 +940,7 @@ fn some_case(r: &mut Random) -> Case {
     if r.chance(12) {
         damage_log(r, &mut log);
     }
-    if r.next() % 400 == 0 {
+    if r.next() % 200 == 0 {
         lengthen(r, &mut log, 1 + table.len());
     }
     if r.chance(12) {
@@ -952,7 +952,7 @@ fn some_case(r: &mut Random) -> Case {
     if r.chance(1) {
         log.clear();
     }
-    Case { n: n as u8, table, log, nothing: r.next() % 2000 == 0 }
+    Case { n: n as u8, table, log, nothing: r.next() % 1000 == 0 }
 }
 
 // ---- the programs

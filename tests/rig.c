@@ -12,6 +12,7 @@
 #include <stdlib.h>
 #include <string.h>
 #include <sys/mman.h>
+#include <sys/wait.h>
 #include <unistd.h>
 
 #define ROOM ((size_t)1 << 18)
@@ -51,14 +52,12 @@ static void open_rooms(int how) {
 static uint32_t lent(const uint8_t *table, size_t tables, const uint8_t *log, size_t logs, int at_end) {
     uint8_t *a = rooms[0] + (at_end ? ROOM - tables : 0);
     uint8_t *b = rooms[1] + (at_end ? ROOM - logs : 0);
-    uint32_t code;
     if (tables > ROOM || logs > ROOM) die("a case is too large for the test");
     open_rooms(PROT_READ | PROT_WRITE);
     if (tables > 0) memcpy(a, table, tables);
     if (logs > 0) memcpy(b, log, logs);
     open_rooms(PROT_READ);
-    code = brumerola_choice(a, tables, b, logs);
-    return code;
+    return brumerola_choice(a, tables, b, logs);
 }
 
 static uint32_t code_of(const uint8_t *table, size_t tables, const uint8_t *log, size_t logs) {
@@ -229,6 +228,24 @@ static void small_stack(void) {
     pthread_attr_destroy(&how);
 }
 
+/* Whether a call that is told of one record more than was lent, behind the slice or before it, ends its process: the guards are there. */
+static void guarded(int at_end) {
+    int status;
+    pid_t child;
+    begin();
+    lent(table.at, table.size, logged.at, logged.size, at_end);
+    fflush(stdout);
+    child = fork();
+    if (child == 0) {
+        const uint8_t *from = at_end ? rooms[0] + ROOM - table.size : rooms[0] - 16;
+        if (freopen("/dev/null", "w", stderr) == NULL) _exit(0);
+        brumerola_choice(from, table.size + 16, NULL, 0);
+        _exit(0);
+    }
+    if (child < 0 || waitpid(child, &status, 0) != child) die("no process");
+    expect(at_end ? "a record behind the slice" : "a record before the slice", status != 0, 1);
+}
+
 /* ---- cases of a folder: NNNN.table, NNNN.log, and expected.txt with a number and a code in each line */
 
 static void load(struct bytes *to, const char *folder, const char *number, const char *kind) {
@@ -289,6 +306,8 @@ int main(int count, char **words) {
     long_logs();
     no_pointers();
     small_stack();
+    guarded(0);
+    guarded(1);
     folder_cases(words[1]);
     printf("%u cases, %u wrong\n", ran, wrong);
     return wrong == 0 ? 0 : 1;

@@ -1,15 +1,16 @@
 #!/bin/sh
-# The bench rig from C: builds target/tests/rig, a C program over the static library, and runs its cases; on x86-64 also under valgrind.
+# The bench rig from C: builds target/tests/rig, a C program over the static library, and runs its cases; on x86-64 under valgrind as well.
 set -eu
 cd "$(dirname "$0")/.."
 . tests/machine.sh
 rt staticlib rig
 mkdir -p target/tests
-$cc -std=c99 -O2 -Wall -Wextra -Werror -static -I include -o target/tests/rig tests/rig.c target/staticlib/librig.a -lpthread
+warn='-std=c99 -Wall -Wextra -Werror'
+$cc $warn -O2 -static -I include -o target/tests/rig tests/rig.c target/staticlib/librig.a -lpthread
 $run target/tests/rig tests/cases/rig
 if [ -z "$run" ]; then
-    # without -static, so that valgrind sees the C library's own functions
-    $cc -std=c99 -g -O2 -I include -o target/tests/rig_watched tests/rig.c target/staticlib/librig.a -lpthread
-    install valgrind valgrind || echo "valgrind is not here: guard pages alone were used"
-    if command -v valgrind >/dev/null; then valgrind -q --error-exitcode=9 target/tests/rig_watched tests/cases/rig; fi
+    needs valgrind valgrind || exit 1
+    # with the C library's own file, since valgrind knows its functions by it
+    $cc $warn -O2 -g -I include -o target/tests/rig_watched tests/rig.c target/staticlib/librig.a -lpthread
+    valgrind -q --error-exitcode=9 target/tests/rig_watched tests/cases/rig
 fi
