@@ -10,12 +10,10 @@ use Rattle.states.specs.declared.State.{State}
 use Rattle.states.specs.State.{freshState}
 use Rattle.events.specs.declared.Reading.{Reading}
 use Rattle.events.specs.declared.Reading.the-variants as R
-use Rattle.events.specs.declared.Event.{Event}
 use Rattle.events.specs.Record.{readRecord}
 use Rattle.events.specs.Log.{restOf}
-use Rattle.events.proofs.Rests.{rest-silent}
 use Rattle.engine.specs.Log.{ran}
-use Rattle.rig.specs.Code.{Case, refused, too-long, ofAnswer, afterReading, logCase, caseOf}
+use Rattle.rig.specs.Code.{refused, too-long, ofAnswer, afterReading, logCase, caseOf}
 
 module _ (s : State) (log : List ℕ) where
   pub case-stopped : (n : ℕ) → readRecord (restOf log) ≡ R.Refused n → logCase s log ≡ refused n

@@ -1,13 +1,12 @@
 -- A case is the rig's exactly when document 01's rule for it holds: the tests decide the rules in their order, and the last event of a log
 -- is the one that is applied last.
-use Prim.Native.Nat.{ℕ, zero, suc, _*_, _≤_, _<_}
-use mathlib.Core.Path.{_≡_, refl, sym, subst, ap, _∙_}
-use mathlib.Core.Bool.{Bool, true, false}
+use Prim.Native.Nat.{ℕ, zero, suc, _≤_, _<_}
+use mathlib.Core.Path.{_≡_, refl, sym, ap, _∙_}
 use mathlib.Core.List.{List, [], _∷_, _++_}
 use mathlib.Core.Logic.{_↔_}
 use native.Mathlib.Decide.{decLt}
 use native.Mathlib.Omega.{arith}
-use lib.ListN.{length, drop}
+use lib.ListN.{length}
 use Rattle.laws.proofs.Answers.{exactly, one-answer}
 use Rattle.laws.proofs.Tests.{tells-true}
 use Rattle.tables.specs.declared.Answer as D
@@ -18,16 +17,15 @@ use Rattle.events.specs.declared.Reading.{Reading}
 use Rattle.events.specs.declared.Reading.the-variants as R
 use Rattle.events.specs.Record.{readRecord}
 use Rattle.events.specs.Log.{readable, restOf, eventsIn, eventsOf}
-use Rattle.events.proofs.ReadOne.{read-end}
 use Rattle.events.proofs.Records.{readable-fits}
 use Rattle.events.proofs.Rests.{rest-silent, rest-end}
 use Rattle.states.specs.declared.State.{State}
 use Rattle.states.specs.State.{freshState}
 use Rattle.states.proofs.Sounding.{state-tells}
 use Rattle.engine.specs.declared.Applied.{Applied}
-use Rattle.engine.specs.Apply.{answerOf, applied}
+use Rattle.engine.specs.Apply.{applied}
 use Rattle.engine.specs.Log.{standing, ranOver, ran}
-use Rattle.rig.specs.Code.{Case, none, refused, too-long, ofAnswer, logCase, caseOf}
+use Rattle.rig.specs.Code.{Case, none, ofAnswer, caseOf}
 use Rattle.rig.specs.Given.{Begun, Whole, stateAfter, Given, long, bad-table, bad-record, empty, last}
 use Rattle.rig.proofs.Starts.{begins-sound, begins-idle}
 use Rattle.rig.proofs.Cases.{case-stopped, case-ended, case-long, case-table, case-log}

@@ -14,13 +14,11 @@ use Rattle.states.specs.State.{freshState}
 use Rattle.events.specs.declared.Event.{Event}
 use Rattle.events.specs.declared.Reading.the-variants as R
 use Rattle.events.specs.Record.{readRecord}
-use Rattle.events.specs.Answer.{readSaid}
 use Rattle.events.specs.Log.{restOf, eventsOf}
 use Rattle.events.proofs.ReadOne.{read-end}
 use Rattle.events.proofs.Rests.{rest-refused}
 use Rattle.engine.specs.declared.Answer.{Answer}
 use Rattle.engine.specs.declared.Answer.the-variants as A
-use Rattle.engine.specs.declared.Applied.{Applied}
 use Rattle.engine.specs.Apply.{applied}
 use Rattle.rig.specs.Code.{Case, chosen, none, refused, too-long, codeFor, caseFor, Said, ofAnswer, caseOf, codeOf}
 use Rattle.rig.specs.Given.{Begun, stateAfter, Given, long, bad-table, bad-record, empty, last, Source, of-table, of-record, of-event}

@@ -1,7 +1,7 @@
 -- The fresh state of an accepted table is sound and has no choice: each of its records is a fresh one.
 use Prim.Native.Nat.{ℕ, min, _<_}
 use mathlib.Core.Path.{_≡_, refl, sym, ap, _∙_}
-use mathlib.Core.Bool.{Bool, true, false}
+use mathlib.Core.Bool.{false}
 use native.Mathlib.Omega.{arith}
 use lib.ListN.{getD, replicate}
 use Rattle.laws.proofs.Stores.{filled-below}
@@ -17,7 +17,7 @@ use Rattle.soundness.proofs.Kept.{fresh-sound}
 use Rattle.states.specs.declared.Best.{Best}
 use Rattle.states.specs.State.{recordAt, freshState}
 use Rattle.states.specs.Sound.{StateSound}
-use Rattle.states.specs.Choice.{bestTo, chosen}
+use Rattle.states.specs.Choice.{chosen}
 use Rattle.states.proofs.Least.{Found, some, nothing, best-is}
 
 module _ (t : Table) (good : judged t ≡ Accepted) where
