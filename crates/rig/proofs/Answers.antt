@@ -1,7 +1,7 @@
--- What an event of a log can be answered in a run: one of 16 tasks, none, or 9 to 12. 15 is out because every event keeps a sound state
+-- What an event of a log can be answered in a run: one of the tasks, none, or 9 to 12. 15 is out because every event keeps a sound state
 -- sound, 7 and 8 because what reads obeys the rules.
-use Prim.Native.Nat.{ℕ, min}
-use mathlib.Core.Path.{_≡_}
+use Prim.Native.Nat.{ℕ, min, _≤_}
+use mathlib.Core.Path.{_≡_, refl, subst, _∙_}
 use mathlib.Core.Bool.{true}
 use mathlib.Core.List.{List, [], _∷_}
 use native.Mathlib.Omega.{arith}
@@ -22,24 +22,27 @@ use Rattle.states.specs.Sound.{limit, StateSound}
 use Rattle.states.specs.Choice.{chosen}
 use Rattle.states.proofs.Least.{found-below}
 use Rattle.states.proofs.Sounding.{state-tells}
+use Rattle.engine.specs.declared.Answer.{Answer}
+use Rattle.engine.specs.declared.Answer.the-variants as A
 use Rattle.engine.specs.declared.Applied.{Applied}
 use Rattle.engine.specs.Steps.{expiredAll, tooSoon, reopened, isOpen}
 use Rattle.engine.specs.Apply.{answerOf, moved, ticked, releasedAt, completedAt, byKind, timed, acted, applied}
 use Rattle.engine.specs.Log.{standing, ranOver, ran}
+use Rattle.engine.proofs.Frame.{count-stays}
 use Rattle.engine.proofs.Kept.{applied-sound}
 use Rattle.rig.specs.Code.{Said}
 
-answer-said : (s : State) → Said (answerOf s)
+answer-said : (s : State) → Said (s .count) (answerOf s)
 answer-said s =
-    by-test Said (chosen s .found) _ _ (λ f. let b = found-below (s .records) (min (s .count) 16) f in omega (arith, b)) (λ f. tt)
+    by-test (Said (s .count)) (chosen s .found) _ _ (λ f. let b = found-below (s .records) (min (s .count) 16) f in omega (arith, b)) (λ f. tt)
 
 -- ---- one event
 
 module _ (s : State) (e : Event) where
   Fine : Applied → Type 0
-  Fine a = Said (a .answer)
+  Fine a = Said (s .count) (a .answer)
 
-  kind-said : Said (byKind s e .answer)
+  kind-said : Said (s .count) (byKind s e .answer)
   unfolding byKind ticked releasedAt completedAt Fine
   kind-said =
       let one = expired (recordAt s (e .task)) (e .time) in
@@ -57,7 +60,7 @@ module _ (s : State) (e : Event) where
       (λ b.
       by-test Fine (isOpen one (e .job)) _ _ (λ f. answer-said (moved s (e .time) (set l (e .task) (closed one true)))) (λ f. omega arith))))
 
-  applied-said : StateSound s → faultOf e ≡ 0 → Said (applied s e .answer)
+  applied-said : StateSound s → faultOf e ≡ 0 → Said (s .count) (applied s e .answer)
   unfolding applied acted timed Fine
   applied-said p z =
       rw (tells-true (state-tells s) p, eq-eqb (faultOf e) 0 z)
@@ -76,12 +79,20 @@ all-ruled =
     by-records (λ s. AllRuled (eventsOf s)) (λ s t. rw (t .none) tt)
     (λ s g h. rw (g .counts) (judge-0 _ .1 (g .ruled), h))
 
-over-said : (a : Applied) (es : List Event) → AllRuled es → StateSound (a .state) → Said (a .answer) → Said (ranOver a es .answer)
+over-said : (n : ℕ) (a : Applied) (es : List Event) → AllRuled es → StateSound (a .state) → a .state .count ≡ n → Said n (a .answer)
+    → Said n (ranOver a es .answer)
 unfolding ranOver AllRuled
-over-said a [] r s p = p
-over-said a (e ∷ es) r s p =
-    over-said (applied (a .state) e) es (r .1) (applied-sound (a .state) s e) (applied-said (a .state) e s (r .0))
+over-said n a [] r s q p = p
+over-said n a (e ∷ es) r s q p =
+    over-said n (applied (a .state) e) es (r .1) (applied-sound (a .state) s e) (count-stays (a .state) e ∙ q)
+    (subst (λ k. Said k (applied (a .state) e .answer)) q (applied-said (a .state) e s (r .0)))
 
-pub ran-said : (s : State) (log : List ℕ) → StateSound s → Said (ran s log .answer)
+pub ran-said : (s : State) (log : List ℕ) → StateSound s → Said (s .count) (ran s log .answer)
 unfolding ran
-ran-said s log p = rw (tells-true (state-tells s) p) (over-said (standing s) (eventsOf log) (all-ruled log) p (answer-said s))
+ran-said s log p = rw (tells-true (state-tells s) p) (over-said (s .count) (standing s) (eventsOf log) (all-ruled log) p refl (answer-said s))
+
+-- one of n tasks is one of 16
+pub said-16 : (n : ℕ) (a : Answer) → n ≤ 16 → Said n a → Said 16 a
+said-16 n (A.Run p c) l h = omega arith
+said-16 n A.Idle l h = tt
+said-16 n (A.Refused k) l h = h

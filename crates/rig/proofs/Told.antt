@@ -20,18 +20,11 @@ use Rattle.events.proofs.Rests.{rest-refused}
 use Rattle.engine.specs.declared.Answer.{Answer}
 use Rattle.engine.specs.declared.Answer.the-variants as A
 use Rattle.engine.specs.Apply.{applied}
-use Rattle.rig.specs.Code.{Case, chosen, none, refused, too-long, codeFor, caseFor, Said, ofAnswer, caseOf, codeOf}
+use Rattle.rig.specs.Code.{Case, chosen, none, refused, too-long, Fits, codeFor, caseFor, Said, ofAnswer, caseOf, codeOf}
 use Rattle.rig.specs.Given.{Begun, stateAfter, Given, long, bad-table, bad-record, empty, last, Source, of-table, of-record, of-event}
-use Rattle.rig.proofs.Answers.{ran-said}
+use Rattle.rig.proofs.Answers.{ran-said, said-16}
 use Rattle.rig.proofs.Starts.{answer-is, begins-sound}
 use Rattle.rig.proofs.Exactly.{ran-last, given-is, given-exactly}
-
--- the ranges of the cases
-abbrev pub Fits : Case → Type 0
-Fits (chosen p) = p < 16
-Fits none = Unit
-Fits (refused n) = (1 ≤ n) × (n ≤ 12)
-Fits too-long = Unit
 
 told : (c : Case) → Fits c → caseFor (codeFor c) ≡ c
 told (chosen p) f = rw (lt-ltb p 16 f)
@@ -56,8 +49,12 @@ module _ (table log : List ℕ) where
   table-among : (n p : ℕ) → readTable table .answer ≡ T.Refused n p → (1 ≤ n) × (n ≤ 4)
   table-among n p q = read-among table n p (sym (answer-is table) ∙ q)
 
-  last-said : Begun table log → (es : List Event) (e : Event) → eventsOf log ≡ es ++ (e ∷ []) → Said (applied (stateAfter table es) e .answer)
+  last-said : Begun table log → (es : List Event) (e : Event) → eventsOf log ≡ es ++ (e ∷ [])
+      → Said (readTable table .table .count) (applied (stateAfter table es) e .answer)
   last-said b es e q = rw (ran-last table log b es e q) at (ran-said (freshState (readTable table .table)) log (begins-sound table (b .tabled)))
+
+  most : Begun table log → readTable table .table .count ≤ 16
+  most b = begins-sound table (b .tabled) .counted .most
 
   -- ---- the ranges
 
@@ -66,9 +63,11 @@ module _ (table log : List ℕ) where
   fits c (bad-table l {n} {p} q) = let a = table-among n p q in (a .0, omega (arith, a .1))
   fits c (bad-record b {n} q) = let a = stopped-among n q in (omega (arith, a .0), omega (arith, a .1))
   fits c (empty b q) = tt
-  fits c (last w es e q) = go (applied (stateAfter table es) e .answer) (last-said (w .begun) es e q)
+  fits c (last w es e q) =
+      go (applied (stateAfter table es) e .answer)
+      (said-16 (readTable table .table .count) (applied (stateAfter table es) e .answer) (most (w .begun)) (last-said (w .begun) es e q))
     where
-      go : (a : Answer) → Said a → Fits (ofAnswer a)
+      go : (a : Answer) → Said 16 a → Fits (ofAnswer a)
       go (A.Run p k) h = h
       go A.Idle h = tt
       go (A.Refused n) h = (omega (arith, h .0), h .1)
@@ -107,7 +106,7 @@ module _ (table log : List ℕ) where
   from c (empty b q) n e = let z : _≡_ {A = ℕ} 0 1 = cc in absurd (omega arith)
   from c (last w es x q) n e = go (applied (stateAfter table es) x .answer) refl (last-said (w .begun) es x q) e
     where
-      go : (a : Answer) → applied (stateAfter table es) x .answer ≡ a → Said a → ofAnswer a ≡ refused n → Source table log n
+      go : (a : Answer) → applied (stateAfter table es) x .answer ≡ a → Said (readTable table .table .count) a → ofAnswer a ≡ refused n → Source table log n
       go (A.Run p k) r h z = let y : _≡_ {A = ℕ} 0 1 = cc in absurd (omega arith)
       go A.Idle r h z = let y : _≡_ {A = ℕ} 0 1 = cc in absurd (omega arith)
       go (A.Refused m) r h z =
@@ -116,6 +115,24 @@ module _ (table log : List ℕ) where
 
   pub refusal-from : (n : ℕ) → caseOf table log ≡ refused n → Source table log n
   refusal-from n = from (caseOf table log) (given-is table log) n
+
+  -- ---- what is chosen
+
+  chosen-by : (c : Case) → Given table log c → (p : ℕ) → c ≡ chosen p → p < readTable table .table .count
+  chosen-by c (long l) p e = let z : _≡_ {A = ℕ} 0 1 = cc in absurd (omega arith)
+  chosen-by c (bad-table l q) p e = let z : _≡_ {A = ℕ} 0 1 = cc in absurd (omega arith)
+  chosen-by c (bad-record b q) p e = let z : _≡_ {A = ℕ} 0 1 = cc in absurd (omega arith)
+  chosen-by c (empty b q) p e = let z : _≡_ {A = ℕ} 0 1 = cc in absurd (omega arith)
+  chosen-by c (last w es x q) p e = go (applied (stateAfter table es) x .answer) (last-said (w .begun) es x q) e
+    where
+      go : (a : Answer) → Said (readTable table .table .count) a → ofAnswer a ≡ chosen p → p < readTable table .table .count
+      go (A.Run k c) h z = let y : k ≡ p = cc in omega arith
+      go A.Idle h z = let y : _≡_ {A = ℕ} 0 1 = cc in absurd (omega arith)
+      go (A.Refused m) h z = let y : _≡_ {A = ℕ} 0 1 = cc in absurd (omega arith)
+
+  -- a chosen task is one of the table's
+  pub chosen-below : (p : ℕ) → caseOf table log ≡ chosen p → p < readTable table .table .count
+  chosen-below p = chosen-by (caseOf table log) (given-is table log) p
 
 -- an empty log gives 16, whatever table is read
 pub empty-log : (table : List ℕ) → readTable table .answer ≡ T.Accepted → codeOf table [] ≡ 16

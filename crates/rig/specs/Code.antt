@@ -31,6 +31,13 @@ codeFor none = 16
 codeFor (refused n) = 32 + n
 codeFor too-long = 64
 
+-- the ranges that the cases keep to: `case-fits` shows it
+abbrev pub Fits : Case → Type 0
+Fits (chosen p) = p < 16
+Fits none = Unit
+Fits (refused n) = (1 ≤ n) × (n ≤ 12)
+Fits too-long = Unit
+
 -- and what a caller makes of the number: `code-told` shows that it is the case that was meant
 abbrev pub caseFor : ℕ → Case
 caseFor x = cond (ltb x 16) (chosen x) (cond (eqb x 16) none (cond (eqb x 64) too-long (refused (x - 32))))
@@ -41,11 +48,11 @@ ofAnswer (A.Run p c) = chosen p
 ofAnswer A.Idle = none
 ofAnswer (A.Refused n) = refused n
 
--- what an event that reads is answered in a run: one of 16 tasks, none, or 9 to 12
-abbrev pub Said : Answer → Type 0
-Said (A.Run p c) = p < 16
-Said A.Idle = Unit
-Said (A.Refused n) = (9 ≤ n) × (n ≤ 12)
+-- what an event that reads is answered in a run of n tasks: one of them, none, or 9 to 12
+abbrev pub Said : ℕ → Answer → Type 0
+Said n (A.Run p c) = p < n
+Said n A.Idle = Unit
+Said n (A.Refused k) = (9 ≤ k) × (k ≤ 12)
 
 -- a reading refusal goes before it
 abbrev pub afterReading : Reading → Case → Case

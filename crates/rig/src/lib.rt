@@ -24,7 +24,7 @@ fn place(position: usize) -> u32
 
 // The chosen task, 16 for none, or the refusal.
 fn code_of(answer: Answer) -> u32
-    requires { ⌜ Said answer ⌝ }
+    requires { ⌜ Said 16 answer ⌝ }
     ensures { λ r. ⌜ r ≡ codeFor (ofAnswer answer) ⌝ }
 {
     match answer {

@@ -5,8 +5,9 @@ use native.Mathlib.Omega.{arith}
 use borrow.Author.Needs.{needs}
 use Rattle.events.specs.Record.{readRecord}
 use Rattle.engine.specs.declared.Applied.{Applied}
+use Rattle.engine.specs.Log.{ran}
 use Rattle.rig.specs.Code.{codeFor, ofAnswer}
-use Rattle.rig.proofs.Answers.{ran-said}
+use Rattle.rig.proofs.Answers.{ran-said, said-16}
 use Rattle.rig.proofs.Cases.{case-stopped, case-ended}
 use Rattle.rig.proofs.log_code.Statement.{statement}
 use Rattle.rig.proofs.log_code.Tie as tie
@@ -37,7 +38,9 @@ run-requires c κs = search needs
 code-of-requires : tie.Need-code-of-requires
 code-of-requires c κs =
     let r = c .before .before .before .before .before in
-    rw (c .run .ensures) (ran-said (r .args .state) (r .args .log .now) (r .pre))
+    let s = r .args .state in
+    let a = ran s (r .args .log .now) .answer in
+    rw (c .run .ensures) (said-16 (s .count) a (r .pre .counted .most) (ran-said s (r .args .log .now) (r .pre)))
 
 returns-2 : tie.Need-returns-2
 returns-2 c =
