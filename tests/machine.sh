@@ -1,3 +1,4 @@
+# shellcheck shell=sh disable=SC2034
 # Programs of the toolchain are for x86-64. Sourced by the tests that build or start one; it sets
 #   cc       what compiles C for x86-64
 #   run      what starts an x86-64 program: nothing on such a machine, an emulator on another

@@ -35,6 +35,8 @@ const BRANCHES: &[&str] = &[
     "table: 4, K above 64",
     "table: 4, m not below K",
     "table: 4, m is 0 and K is not 1",
+    "table: faults of two numbers in one record",
+    "table: a later record has a smaller number",
     "table: refused at 0",
     "table: refused further on",
     "table: 1 task",
@@ -47,11 +49,13 @@ const BRANCHES: &[&str] = &[
     "read: 8, tick with a task",
     "read: 8, tick with a job",
     "read: 8, release with a job",
+    "read: faults of two numbers in one record",
     "read: stop at 0",
     "read: stop further on",
     "read: a record behind the stop",
     "event: 9, above the limit",
     "event: 9, before the clock",
+    "event: 9 and no such task",
     "event: 10, release",
     "event: 10, completion",
     "event: 11",
@@ -236,6 +240,8 @@ fn read_table(bytes: &[u8], seen: &mut Seen) -> Result<Vec<Task>, (u8, usize)> {
     let mut tasks = Vec::new();
     for (position, r) in bytes.chunks(16).enumerate() {
         if let Err(number) = read_task(r, seen).map(|task| tasks.push(task)) {
+            let later = |r: &[u8]| read_task(r, &mut Seen::new(false)).is_err_and(|other| other < number);
+            seen.hit_if(bytes[16 * position + 16..].chunks(16).any(later), "table: a later record has a smaller number");
             seen.hit(if position == 0 { "table: refused at 0" } else { "table: refused further on" });
             return Err((number, position));
         }
@@ -260,13 +266,15 @@ fn read_task(r: &[u8], seen: &mut Seen) -> Result<Task, u8> {
         (task.m >= task.k, 4, "table: 4, m not below K"),
         (task.m == 0 && task.k != 1, 4, "table: 4, m is 0 and K is not 1"),
     ];
-    match faults.iter().find(|f| f.0) {
-        Some((_, number, branch)) => {
-            seen.hit(branch);
-            Err(*number)
-        }
-        None => Ok(task),
-    }
+    first_of(&faults, "table: faults of two numbers in one record", seen).map_or(Ok(task), Err)
+}
+
+// The number of the first fault that holds.
+fn first_of(faults: &[(bool, u8, &'static str)], several: &'static str, seen: &mut Seen) -> Option<u8> {
+    let (_, number, branch) = faults.iter().find(|f| f.0)?;
+    seen.hit(branch);
+    seen.hit_if(faults.iter().any(|f| f.0 && f.1 != *number), several);
+    Some(*number)
 }
 
 // The smallest R from 1 to D that the demand of R ticks fits into.
@@ -339,13 +347,7 @@ fn read_event(bytes: &[u8], seen: &mut Seen) -> Result<Event, u8> {
         (e.kind == 0 && e.job != 0, 8, "read: 8, tick with a job"),
         (e.kind == 1 && e.job != 0, 8, "read: 8, release with a job"),
     ];
-    match faults.iter().find(|f| f.0) {
-        Some((_, number, branch)) => {
-            seen.hit(branch);
-            Err(*number)
-        }
-        None => Ok(e),
-    }
+    first_of(&faults, "read: faults of two numbers in one record", seen).map_or(Ok(e), Err)
 }
 
 // ---- the engine
@@ -473,9 +475,21 @@ impl Engine {
         seen.hit_if(open.iter().any(|o| self.lines[o.2].deadline() < mine), "choice: not the earliest deadline");
     }
 
+    // What an accepted event did to the engine as it was before.
+    fn note_accepted(&self, e: &Event, late: u64, noted: &mut Seen) {
+        let chosen = self.choice().map(|c| c.0) == Some(e.task as usize);
+        noted.hit_if(e.kind == 2 && chosen, "close: met by the choice");
+        noted.hit_if(e.kind == 2 && !chosen, "close: met by another job");
+        noted.hit_if(late == 1, "close: late, one job");
+        noted.hit_if(late > 1, "close: late, several jobs at once");
+        noted.hit_if(e.time == LIMIT, "event: accepted at the limit");
+        noted.hit_if(e.time == self.clock, "event: accepted at the clock");
+    }
+
     fn apply(&mut self, e: &Event, seen: &mut Seen) -> Result<(), u8> {
         if e.time > LIMIT || e.time < self.clock {
             seen.hit(if e.time > LIMIT { "event: 9, above the limit" } else { "event: 9, before the clock" });
+            seen.hit_if(e.kind != 0 && e.task as usize >= self.lines.len(), "event: 9 and no such task");
             return Err(9);
         }
         let of = e.task as usize;
@@ -483,7 +497,6 @@ impl Engine {
             seen.hit(if e.kind == 1 { "event: 10, release" } else { "event: 10, completion" });
             return Err(10);
         }
-        let chosen = self.choice();
         let mut next = self.clone();
         // what is seen on the way counts only where the event is accepted
         let mut noted = Seen::new(seen.on);
@@ -503,13 +516,7 @@ impl Engine {
             seen.hit_if(late > 0, "event: refused, and step 1 undone");
             return Err(number);
         }
-        if e.kind == 2 {
-            noted.hit(if chosen.map(|c| c.0) == Some(of) { "close: met by the choice" } else { "close: met by another job" });
-        }
-        noted.hit_if(late == 1, "close: late, one job");
-        noted.hit_if(late > 1, "close: late, several jobs at once");
-        noted.hit_if(e.time == LIMIT, "event: accepted at the limit");
-        noted.hit_if(e.time == self.clock, "event: accepted at the clock");
+        self.note_accepted(e, late, &mut noted);
         next.clock = e.time;
         *self = next;
         self.note_choice(&mut noted);
@@ -814,10 +821,13 @@ fn some_bad(r: &mut Random, engine: &Engine, mood: &Mood) -> Event {
     let kind = r.from(0, 2) as u8;
     let task = if kind == 0 { 0 } else { of as u8 };
     let job = if kind == 2 { line.released } else { 0 };
-    let time = some_time(r, engine, mood);
+    let early = engine.clock.saturating_sub(r.from(1, 3));
+    let beyond = r.of(&[LIMIT + 1, LIMIT + 2, u64::MAX, 1 << 40]);
+    // some break two rules
+    let time = if r.chance(15) { r.of(&[early, beyond]) } else { some_time(r, engine, mood) };
     match r.from(0, 7) {
-        0 => Event { kind, task, job, time: engine.clock.saturating_sub(r.from(1, 3)) },
-        1 => Event { kind, task, job, time: r.of(&[LIMIT + 1, LIMIT + 2, u64::MAX, 1 << 40]) },
+        0 => Event { kind, task, job, time: early },
+        1 => Event { kind, task, job, time: beyond },
         2 => Event { kind: r.from(1, 2) as u8, task: r.of(&[n, n + 1, 16, 255]) as u8, job: 0, time },
         3 | 4 => {
             let ready = line.last.map_or(0, |last| last + line.task.t);
@@ -875,7 +885,13 @@ fn some_events(r: &mut Random, tasks: &[Task]) -> Vec<Event> {
     events
 }
 
+// How often a part is damaged: mostly not at all.
+const DAMAGES: [u64; 16] = [0, 0, 0, 0, 0, 0, 0, 0, 0, 0, 0, 0, 0, 1, 1, 4];
+
 fn damage_table(r: &mut Random, table: &mut Vec<u8>) {
+    if table.len() < 16 {
+        return;
+    }
     let at = 16 * (r.next() as usize % (table.len() / 16));
     let (d, t) = (number(&table[at + 6..at + 10]), number(&table[at + 10..at + 14]));
     let mut put = |place: usize, x: u64| table[at + place..at + place + 4].copy_from_slice(&(x as u32).to_le_bytes());
@@ -938,13 +954,13 @@ fn some_case(r: &mut Random) -> Case {
     let tasks = some_tasks(r);
     let mut table: Vec<u8> = tasks.iter().flat_map(|task| task.record()).collect();
     let mut log: Vec<u8> = some_events(r, &tasks).iter().flat_map(|event| event.record()).collect();
-    if r.chance(12) {
+    for _ in 0..r.of(&DAMAGES) {
         damage_log(r, &mut log);
     }
     if r.next() % 200 == 0 {
         lengthen(r, &mut log, 1 + table.len());
     }
-    if r.chance(12) {
+    for _ in 0..r.of(&DAMAGES) {
         damage_table(r, &mut table);
     }
     // the listing's count is that of the bytes, or of the table before it was damaged, or any

@@ -3,14 +3,17 @@
 set -eu
 cd "$(dirname "$0")/.."
 . tests/machine.sh
+
+# build WORDS..: the client, by these words of the compiler
+build() { "$cc" -std=c99 -Wall -Wextra -Werror -O2 -I include "$@" tests/rig.c target/staticlib/librig.a -lpthread; }
+
 rt staticlib rig
 mkdir -p target/tests
-warn='-std=c99 -Wall -Wextra -Werror'
-$cc $warn -O2 -static -I include -o target/tests/rig tests/rig.c target/staticlib/librig.a -lpthread
+build -static -o target/tests/rig
 $run target/tests/rig tests/cases/rig
 if [ -z "$run" ]; then
-    needs valgrind valgrind || exit 1
-    # with the C library's own file, since valgrind knows its functions by it
-    $cc $warn -O2 -g -I include -o target/tests/rig_watched tests/rig.c target/staticlib/librig.a -lpthread
+    needs valgrind valgrind
+    # with the C library as a file of its own, since valgrind knows its functions by it
+    build -g -o target/tests/rig_watched
     valgrind -q --error-exitcode=9 target/tests/rig_watched tests/cases/rig
 fi

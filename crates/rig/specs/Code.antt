@@ -17,7 +17,7 @@ use Rattle.engine.specs.declared.Answer.{Answer}
 use Rattle.engine.specs.declared.Answer.the-variants as A
 use Rattle.engine.specs.Log.{ran}
 
--- what the rig can be told
+-- the answers of the rig
 pub data Case : Type 0 where
   chosen : ℕ → Case
   none : Case
