@@ -1119,14 +1119,14 @@ fn listing_differs<'a>(command: &'a str) -> impl Fn(&[Case]) -> Vec<bool> + 'a {
     }
 }
 
-// Every case through the listing, two at a time; the first that differs.
+// Every case through the listing, as many at a time as the machine has processors; the first that differs.
 fn listing_first(command: &str, cases: &[Case]) -> Option<usize> {
     let next = AtomicUsize::new(0);
     let found: Mutex<Option<usize>> = Mutex::new(None);
     let differs = listing_differs(command);
     let one = |case: &Case| differs(std::slice::from_ref(case))[0];
     thread::scope(|all| {
-        for _ in 0..2 {
+        for _ in 0..thread::available_parallelism().map_or(2, |n| n.get()) {
             all.spawn(|| loop {
                 let i = next.fetch_add(1, Ordering::Relaxed);
                 if i >= cases.len() || found.lock().unwrap().is_some() {
