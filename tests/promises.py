@@ -39,7 +39,7 @@ names = crates | set(declared) | set(functions) | set().union(*declared.values()
 
 # ---- what the promises name
 
-WORDS = {"&", "let", "loop", "requires", "specs", "proofs", "must-fail", "pub", "es", "i"}
+WORDS = {"&", "-", "let", "loop", "requires", "specs", "proofs", "must-fail", "pub", "es", "i"}
 
 
 def known(word):

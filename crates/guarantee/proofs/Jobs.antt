@@ -24,6 +24,7 @@ use Rattle.soundness.proofs.Kept.{end}
 use Rattle.states.specs.declared.State.{State}
 use Rattle.states.specs.State.{recordAt, freshState}
 use Rattle.states.specs.Sound.{StateSound}
+use Rattle.states.proofs.Starting.{fresh-at}
 use Rattle.windows.specs.Outcomes.{mets, misses, lastMisses, firstOver}
 use Rattle.windows.specs.History.{History, start, release, close, openOf}
 use Rattle.windows.proofs.Counts.{counts}
@@ -36,7 +37,7 @@ use Rattle.guarantee.specs.History.{Job, stateAfter, recordAfter, closes
 use Rattle.guarantee.proofs.Steps.{closed-same, closed-idle, cleared, cleared-open, cleared-none, cleared-same, Expired, over, stays, expiry, expired-same, expired-open}
 use Rattle.guarantee.proofs.Closes.{jobsWith, closes-none, closes-stays, closes-idle, closes-next}
 use Rattle.guarantee.proofs.Taken.{passed, Becomes, same, passes, reopens, finishes, becomes}
-use Rattle.guarantee.proofs.Reached.{room-for, fresh-at, reached}
+use Rattle.guarantee.proofs.Reached.{room-for, reached}
 
 -- a new job has a number of its own
 later-number : (r : Record) (clock : ℕ) (e : Event) → Sound r clock → clock ≤ end → (q : Record) → q .released ≡ r .released

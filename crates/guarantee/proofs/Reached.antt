@@ -5,17 +5,16 @@ use mathlib.Core.List.{List, [], _∷_}
 use native.Mathlib.Nat.{le-refl}
 use native.Mathlib.Omega.{arith}
 use lib.ListN.{length, getD, replicate, length-set}
-use Rattle.laws.proofs.Stores.{length-filled, filled-below, filled-past}
+use Rattle.laws.proofs.Stores.{length-filled, filled-past}
 use Rattle.events.specs.declared.Event.{Event}
 use Rattle.tables.specs.declared.Table.{Table}
 use Rattle.tables.specs.declared.Answer.the-variants.{Accepted}
 use Rattle.tables.specs.Judging.{judged}
-use Rattle.tables.proofs.Exactly.{judged-accepted}
 use Rattle.records.specs.Opening.{fresh, noRecord}
-use Rattle.soundness.proofs.Kept.{fresh-sound}
 use Rattle.states.specs.declared.State.{State}
 use Rattle.states.specs.State.{recordAt, freshState}
 use Rattle.states.specs.Sound.{StateSound}
+use Rattle.states.proofs.Starting.{fresh-at, start-sound}
 use Rattle.response.specs.Above.{taskAt}
 use Rattle.engine.specs.declared.Applied.{Applied}
 use Rattle.engine.specs.Apply.{acted, applied}
@@ -70,24 +69,13 @@ module _ (t : Table) (good : judged t ≡ Accepted) where
   pub room-for : (s : State) → Reached t s → s .count ≤ length (s .records)
   room-for s r = omega (arith, r .places, r .sound .counted .most)
 
-  pub fresh-at : (i : ℕ) → i < t .count → recordAt (freshState t) i ≡ fresh (taskAt t i)
-  fresh-at i h =
-      filled-below (λ (j : ℕ). fresh (taskAt t j)) (replicate 16 noRecord) noRecord (t .count) i
-      (omega (arith, judged-accepted t .0 good .0 .most)) h
-
   pub fresh-reached : Reached t (freshState t)
   fresh-reached =
-      let j = judged-accepted t .0 good in
       record {
-        sound =
-            record {
-              counted = j .0;
-              clock = omega arith;
-              each = λ i h. rw (fresh-at i h) (fresh-sound (taskAt t i) (j .1 i h));
-            };
+        sound = start-sound t good;
         count = refl;
         places = length-filled (λ (i : ℕ). fresh (taskAt t i)) (replicate 16 noRecord) noRecord (t .count);
-        tasks = λ i h. rw (fresh-at i h);
+        tasks = λ i h. rw (fresh-at t good i h);
         past = λ i h. filled-past (λ (j : ℕ). fresh (taskAt t j)) (replicate 16 noRecord) noRecord (t .count) i h;
       }
 

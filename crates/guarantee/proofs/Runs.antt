@@ -26,6 +26,7 @@ use Rattle.states.specs.State.{recordAt, freshState}
 use Rattle.states.specs.Choice.{chosen}
 use Rattle.records.proofs.Ranks.{Before}
 use Rattle.states.proofs.Least.{Chosen, Found, some, nothing, best-is}
+use Rattle.states.proofs.Starting.{fresh-at}
 use Rattle.response.specs.Above.{taskAt, isAbove}
 use Rattle.response.proofs.Order.{above-tells}
 use Rattle.response.proofs.Obeyed.{deadline-most}
@@ -38,7 +39,7 @@ use Rattle.guarantee.specs.ChosenTime.{isChoice, openTime}
 use Rattle.guarantee.specs.Premise.{Timely, Premise}
 use Rattle.guarantee.proofs.Steps.{Same, expired-same, is-open}
 use Rattle.guarantee.proofs.Taken.{accepts-answer, passed, Took, refusal, tick, release, completion, took, all-passed, set-there, set-elsewhere}
-use Rattle.guarantee.proofs.Reached.{Reached, room-for, fresh-at, reached}
+use Rattle.guarantee.proofs.Reached.{Reached, room-for, reached}
 use Rattle.guarantee.proofs.Closes.{closes-stays}
 use Rattle.guarantee.proofs.Ticks.{time-rises, time-before, time-unmoved, time-chosen}
 use Rattle.guarantee.proofs.Busy.{keep, rebase}

@@ -2,3 +2,4 @@
 pub mod Each
 pub mod Least
 pub mod Sounding
+pub mod Starting

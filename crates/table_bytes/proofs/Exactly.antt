@@ -1,10 +1,11 @@
 -- Each refusal of table bytes is given exactly when document 01 says: 1 by the length alone, then at the first record that has one,
 -- 2 for its mark, 3 and 4 for its task.
-use Prim.Native.Nat.{ℕ, _*_, _/_, _%_, _<_}
+use Prim.Native.Nat.{ℕ, _*_, _/_, _%_, _≤_, _<_}
 use mathlib.Core.Path.{_≡_, refl, sym, _∙_}
 use mathlib.Core.Bool.{Bool, true, false, cond}
 use mathlib.Core.List.{List, [], _∷_}
 use mathlib.Core.Logic.{_↔_}
+use native.Mathlib.Decide.{ℕ-discrete}
 use native.Mathlib.Omega.{arith}
 use borrow.Author.Tests.{eq-eqb, eqb-true}
 use lib.Dec.{eqb}
@@ -81,3 +82,19 @@ module _ (s : List ℕ) where
   pub read-at : (x p : ℕ) → (x ≡ 1 → ⊥) → (readAnswer s ≡ Refused x p) ↔ (Whole s × First (recordFaultAt s) (length s / 16) x p)
   unfolding readAnswer
   read-at = at-by (recordFaultAt s) (length s / 16) (Whole s) (bytesHold s) (whole-tells s)
+
+  -- no other number is given
+  pub read-among : (x p : ℕ) → readAnswer s ≡ Refused x p → (1 ≤ x) × (x ≤ 4)
+  read-among x p e = go (ℕ-discrete x 1)
+    where
+      found : First (recordFaultAt s) (length s / 16) x p → (1 ≤ x) × (x ≤ 4)
+      found f =
+          let most = record-among (recordAt s p) (length-at p (f .below)) (λ (y : ℕ). y ≤ 4) (omega arith) (omega arith) (omega arith) (omega arith) in
+          (not-zero x (f .some), omega (arith, rw (f .fault) at most))
+        where
+          not-zero : (y : ℕ) → (y ≡ 0 → ⊥) → 1 ≤ y
+          not-zero y n = omega arith
+
+      go : Dec (x ≡ 1) → (1 ≤ x) × (x ≤ 4)
+      go (yes q) = (omega arith, omega arith)
+      go (no q) = found (read-at x p q .0 e .1)

@@ -132,7 +132,7 @@ written-read t s tidy e =
     (records-read t tidy (write-accepted t (length s) .0 e .0))
 
 -- bytes that read are the records of the table they give
-module _ (s : List ℕ) (b : AreBytes s) (good : readAnswer s ≡ Accepted) where
+module _ (s : List ℕ) (good : readAnswer s ≡ Accepted) where
   abbrev count : ℕ
   count = length s / 16
 
@@ -151,29 +151,33 @@ module _ (s : List ℕ) (b : AreBytes s) (good : readAnswer s ≡ Accepted) wher
   given-good : judged given ≡ Accepted
   given-good = judged-accepted given .1 (whole .counted, λ i h. rw (task-there i h) (fault-there i h .1))
 
-  front : (n : ℕ) → n ≤ count → recordsOf (given .tasks) n ≡ take (16 * n) s
+  front : AreBytes s → (n : ℕ) → n ≤ count → recordsOf (given .tasks) n ≡ take (16 * n) s
   unfolding recordsOf
-  front zero h = refl
-  front (suc n) h =
+  front b zero h = refl
+  front b (suc n) h =
       let e : 16 * suc n ≡ 16 * n + 16 = omega arith in
       let r = record-of-task (recordAt s n) (length-at s n h) (take-bytes 16 (drop (16 * n) s) (drop-bytes (16 * n) s b)) (fault-there n h .0) in
-      rw (front n (omega arith), task-there n h, r, e, take-add (16 * n) 16 s)
+      rw (front b n (omega arith), task-there n h, r, e, take-add (16 * n) 16 s)
 
-  again : recordsOf (given .tasks) count ≡ s
-  again = front count (le-refl count) ∙ take-all (16 * count) s (omega (arith, whole .sixteens))
+  again : AreBytes s → recordsOf (given .tasks) count ≡ s
+  again b = front b count (le-refl count) ∙ take-all (16 * count) s (omega (arith, whole .sixteens))
 
   given-is : readTable s .table ≡ given
   unfolding readTable
   given-is = rw good
 
+  -- what was read has no refusal of its own left
+  pub read-good : judged (readTable s .table) ≡ Accepted
+  read-good = rw given-is given-good
+
   -- bytes that read, written again, are the same bytes
-  pub read-written : (u : List ℕ) → length s ≤ length u
+  pub read-written : AreBytes s → (u : List ℕ) → length s ≤ length u
       → (writeAnswer (readTable s .table) (length u) ≡ Accepted) × (wroteTable (readTable s .table) u ≡ s ++ drop (length s) u)
   unfolding writeAnswer
-  read-written u h =
+  read-written b u h =
       let n : 16 * count ≡ length s = omega (arith, whole .sixteens) in
       let e : writeAnswer given (length u) ≡ Accepted = rw (given-good, le-leb (16 * count) (length u) (omega arith)) in
-      rw given-is (e, write-leaves given u e ∙ rw (again, n))
+      rw given-is (e, write-leaves given u e ∙ rw (again b, n))
 
   -- what was read has zeros past the last task
   pub read-tidy : Tidy (readTable s .table)

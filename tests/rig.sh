@@ -1,0 +1,19 @@
+#!/bin/sh
+# The bench rig from C: builds target/tests/rig, a C program over the static library, and runs its cases; on x86-64 under valgrind as well.
+set -eu
+cd "$(dirname "$0")/.."
+. tests/machine.sh
+
+# build WORDS..: the client, by these words of the compiler
+build() { "$cc" -std=c99 -Wall -Wextra -Werror -O2 -I include "$@" tests/rig.c target/staticlib/librig.a -lpthread; }
+
+rt staticlib rig
+mkdir -p target/tests
+build -static -o target/tests/rig
+$run target/tests/rig tests/cases/rig
+if [ -z "$run" ]; then
+    needs valgrind valgrind
+    # with the C library as a file of its own, since valgrind knows its functions by it
+    build -g -o target/tests/rig_watched
+    valgrind -q --error-exitcode=9 target/tests/rig_watched tests/cases/rig
+fi
