@@ -1,8 +1,10 @@
 # shellcheck shell=sh disable=SC2034
-# Programs of the toolchain are for x86-64. Sourced by the tests that build or start one; it sets
+# Programs of the toolchain are for x86-64. Sourced by what builds or starts one; it sets
+#   run      what starts an x86-64 program that is linked whole: nothing on such a machine, an emulator on another
+#   start    what starts a program as the toolchain links it
+# and `compiler` sets
 #   cc       what compiles C for x86-64
-#   run      what starts an x86-64 program: nothing on such a machine, an emulator on another
-# and installs what is missing.
+# All install what is missing.
 
 # needs COMMAND PACKAGE..: installs the packages where the command is not there
 needs() {
@@ -14,22 +16,29 @@ needs() {
     return 1
 }
 
-# The toolchain has an emulator of its own beside its compiler.
+# The toolchain has an emulator of its own beside its compiler, and a loader with its C library.
+tools=$(dirname "$(dirname "$(readlink -f "$(command -v rt)")")")/on/$(uname -m)/toolchain
 emulator() {
-    kit=$(dirname "$(dirname "$(readlink -f "$(command -v rt)")")")
-    beside=$kit/on/$(uname -m)/toolchain/bin/qemu-x86_64
-    if [ -x "$beside" ]; then
-        echo "$beside"
+    if [ -x "$tools/bin/qemu-x86_64" ]; then
+        echo "$tools/bin/qemu-x86_64"
     else
         needs qemu-x86_64 qemu-user >&2 && command -v qemu-x86_64
     fi
 }
 
+compiler() {
+    if [ "$(uname -m)" = x86_64 ]; then
+        needs gcc gcc libc6-dev || exit 1
+        cc=gcc
+    else
+        needs x86_64-linux-gnu-gcc gcc-x86-64-linux-gnu libc6-dev-amd64-cross || exit 1
+        cc=x86_64-linux-gnu-gcc
+    fi
+}
+
 if [ "$(uname -m)" = x86_64 ]; then
-    needs gcc gcc libc6-dev || exit 1
-    cc=gcc run=
+    run='' start=''
 else
-    needs x86_64-linux-gnu-gcc gcc-x86-64-linux-gnu libc6-dev-amd64-cross || exit 1
-    cc=x86_64-linux-gnu-gcc
-    run="$(emulator) -L /usr/x86_64-linux-gnu" || exit 1
+    run=$(emulator) || exit 1
+    start="$run $tools/lib/ld-linux-x86-64.so.2 --library-path $tools/lib"
 fi
