@@ -1,7 +1,7 @@
 -- The lines of a log, record by record: what is left of the log, listed from the state so far, completes what the whole log lists.
 use Prim.Native.Nat.{ℕ, _+_, _*_, _≤_}
-use mathlib.Core.Path.{_≡_, refl, sym, ap, _∙_}
-use mathlib.Core.List.{List, [], _∷_, _++_}
+use mathlib.Core.Path.{_≡_, refl, ap, _∙_}
+use mathlib.Core.List.{List, [], _∷_}
 use mathlib.Core.Logic.{_⊎_, inl, inr}
 use native.Mathlib.Omega.{arith}
 use lib.ListN.{length, drop, length-drop}
@@ -16,7 +16,7 @@ use Rattle.events.specs.Log.{readable, eventsIn, eventsOf}
 use Rattle.events.proofs.Records.{Goes, goes-of, front, Stops}
 use Rattle.states.specs.declared.State.{State}
 use Rattle.engine.specs.Apply.{applied}
-use Rattle.lines.specs.Lines.{eventLine}
+use Rattle.event_lines.specs.Lines.{eventLine}
 use Rattle.listings.specs.Listing.{eventLines, stateAfter, stopBy}
 
 events-more : (s : List ℕ) (e : Event) → readRecord s ≡ R.Event e → eventsOf s ≡ e ∷ eventsOf (drop 20 s)

@@ -1,26 +1,23 @@
 -- No listing is longer than the room that is asked for: each line has a most, and there are no more lines than tasks and records.
-use Prim.Native.Nat.{ℕ, zero, suc, _+_, _*_, _/_, _≤_, _<_}
-use mathlib.Core.Path.{_≡_, refl, sym, ap, _∙_}
-use mathlib.Core.Bool.{Bool, true, false, cond}
-use mathlib.Core.List.{List, [], _∷_, _++_}
+use Prim.Native.Nat.{ℕ, zero, suc, _+_, _*_, _≤_, _<_}
+use mathlib.Core.Path.{_≡_, refl, ap, _∙_}
+use mathlib.Core.List.{List, [], _∷_}
 use native.Mathlib.Nat.{le-refl}
 use native.Mathlib.Omega.{arith}
 use borrow.Author.Tests.{ltb-false}
 use lib.Dec.{ltb}
-use lib.ListN.{length, getD, drop, length-append, length-drop}
+use lib.ListN.{length, drop, length-append, length-drop}
 use Rattle.laws.proofs.Tests.{by-test}
-use Rattle.texts.specs.Decimal.{decimal}
 use Rattle.texts.proofs.Decimals.{decimal-short}
 use Rattle.tables.specs.declared.Answer.{Answer}
 use Rattle.tables.specs.declared.Answer.the-variants.{Accepted, Refused}
 use Rattle.tables.specs.declared.Table.{Table}
 use Rattle.tables.specs.declared.Task.{Task}
 use Rattle.tables.specs.Judging.{judged}
-use Rattle.tables.specs.Rules.{Misses, noTask}
+use Rattle.tables.specs.Rules.{Misses}
 use Rattle.tables.specs.Thresholds.{wOf, hOf}
 use Rattle.tables.proofs.Exactly.{judged-accepted}
 use Rattle.tables.proofs.Ruling.{fault-none}
-use Rattle.table_bytes.specs.declared.TableRead.{TableRead}
 use Rattle.table_bytes.specs.Reading.{readTable}
 use Rattle.response.specs.Above.{taskAt}
 use Rattle.bounds.specs.declared.Bound.{Bound}
@@ -43,7 +40,8 @@ use Rattle.engine.specs.declared.Answer.the-variants as Said
 use Rattle.engine.specs.Apply.{applied}
 use Rattle.engine.proofs.Frame.{count-stays}
 use Rattle.engine.proofs.Kept.{applied-sound}
-use Rattle.lines.specs.Lines.{refusedLine, boundText, taskLine, answerText, eventLine, stopLine, lastLine}
+use Rattle.task_lines.specs.Lines.{boundText, taskLine, lastLine}
+use Rattle.event_lines.specs.Lines.{refusedLine, answerText, eventLine}
 use Rattle.listings.specs.Listing.{taskLines, eventLines, stateAfter, stopBy, stopText, lastLines, tableListing, listedBy, listed, tableThere, tableBytes, eventBytes, listingOf}
 use Rattle.listings.proofs.Input.{read-good}
 use Rattle.listings.proofs.Small.{refusal-small, w-digits, h-digits, task-ruled, bound-small, Small, applied-small, stop-small, met-small, missed-small, broken-small, open-small, window-small, fresh-state-sound}

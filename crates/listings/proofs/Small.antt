@@ -1,23 +1,22 @@
 -- The numbers in a listing are small: positions, numbers, classes and thresholds have at most two digits, since tables obey their rules and states are sound.
-use Prim.Native.Nat.{ℕ, zero, suc, _+_, _-_, _*_, _/_, _^_, min, max, _≤_, _<_}
-use mathlib.Core.Path.{_≡_, refl, sym, ap, _∙_}
+use Prim.Native.Nat.{ℕ, _+_, _-_, _/_, min, _≤_, _<_}
+use mathlib.Core.Path.{_≡_, refl, sym, _∙_}
 use mathlib.Core.Bool.{Bool, true, false, cond}
-use mathlib.Core.List.{List, [], _∷_}
+use mathlib.Core.List.{List}
 use native.Mathlib.Decide.{ℕ-discrete}
 use native.Mathlib.Omega.{arith}
 use borrow.Author.Tests.{eq-eqb, ne-eqb, lt-ltb}
-use lib.Count.{ones, ones-le}
+use lib.Count.{ones-le}
 use lib.Dec.{eqb, leb, ltb}
-use lib.ListN.{length, getD, replicate}
+use lib.ListN.{length, replicate}
 use Rattle.laws.proofs.Numbers.{ceiling-small}
 use Rattle.laws.proofs.Stores.{filled-below}
 use Rattle.laws.proofs.Tests.{by-test}
-use Rattle.tables.specs.declared.Answer.{Answer}
 use Rattle.tables.specs.declared.Answer.the-variants.{Accepted, Refused}
 use Rattle.tables.specs.declared.Table.{Table}
 use Rattle.tables.specs.declared.Task.{Task}
 use Rattle.tables.specs.Judging.{firstFault, judged}
-use Rattle.tables.specs.Rules.{Misses, noTask, taskFault}
+use Rattle.tables.specs.Rules.{Misses, taskFault}
 use Rattle.tables.specs.Thresholds.{wOf, hOf, topOf}
 use Rattle.tables.proofs.Exactly.{judged-accepted}
 use Rattle.tables.proofs.Faults.{found-then}
@@ -38,7 +37,6 @@ use Rattle.events.specs.declared.Reading.{Reading}
 use Rattle.events.specs.declared.Reading.the-variants as R
 use Rattle.events.specs.Event.{zeroes, faultOf}
 use Rattle.events.specs.Record.{eventOf, marks, heard, readRecord}
-use Rattle.levels.specs.Level.{classOf}
 use Rattle.levels.proofs.Needs.{level-told}
 use Rattle.records.specs.declared.Record.{Record}
 use Rattle.records.specs.Opening.{fresh, expired, noRecord}
@@ -50,14 +48,13 @@ use Rattle.states.specs.declared.State.{State}
 use Rattle.states.specs.Choice.{bestTo}
 use Rattle.states.specs.Sound.{limit, StateSound, stateHolds}
 use Rattle.states.specs.State.{freshState}
-use Rattle.states.specs.State.{recordAt as recordOf}
 use Rattle.states.proofs.Least as Least
-use Rattle.engine.specs.declared.Answer.{Answer as Said}
 use Rattle.engine.specs.declared.Answer.the-variants as Said
+use Rattle.states.specs.State.{recordAt as recordOf}
+use Rattle.engine.specs.declared.Answer.{Answer as Said}
 use Rattle.engine.specs.declared.Applied.{Applied}
-use Rattle.engine.specs.Apply.{answerOf, moved, ticked, releasedAt, completedAt, byKind, timed, acted, applied}
+use Rattle.engine.specs.Apply.{answerOf, ticked, releasedAt, completedAt, byKind, timed, acted, applied}
 use Rattle.rulings.specs.Steps.{tooSoon, isOpen}
-use Rattle.engine.specs.Steps.{expiredAll}
 use Rattle.engine.proofs.Kept.{applied-sound}
 use Rattle.listings.proofs.Input.{beside-answer}
 

@@ -1,9 +1,8 @@
 -- What the parts of the listing say in the words of the crates below: the bound, the state at the end, the stop, and that nothing is listed twice or not at all.
-use Prim.Native.Nat.{ℕ, _+_, _*_, _≤_, _<_}
-use mathlib.Core.Path.{_≡_, refl, sym, ap, _∙_}
-use mathlib.Core.Logic.{_⊎_, inl, inr}
+use Prim.Native.Nat.{ℕ, _*_, _≤_, _<_}
+use mathlib.Core.Path.{_≡_, refl, sym, _∙_}
 use mathlib.Core.Bool.{Bool, true, false, cond}
-use mathlib.Core.List.{List, [], _∷_, _++_}
+use mathlib.Core.List.{List, [], _∷_}
 use native.Mathlib.Omega.{arith}
 use borrow.Author.Tests.{lt-ltb, le-ltb, ltb-false}
 use lib.Dec.{ltb}
@@ -18,21 +17,22 @@ use Rattle.response.specs.Bound.{IsBound, NoBound, boundOf}
 use Rattle.response.proofs.Meets.{bound-is, bound-none}
 use Rattle.bounds.specs.Asked.{orThirteen, oneAnswer}
 use Rattle.events.specs.declared.Event.{Event}
-use Rattle.events.specs.declared.Reading.{Reading}
 use Rattle.events.specs.declared.Reading.the-variants as R
 use Rattle.events.specs.Record.{readRecord}
-use Rattle.events.specs.Log.{readable, restOf}
-use Rattle.events.proofs.Rests.{rest-end, rest-silent}
+use Rattle.events.specs.Log.{readable}
+use Rattle.events.proofs.Rests.{rest-end}
 use Rattle.states.specs.declared.State.{State}
 use Rattle.engine.specs.declared.Applied.{Applied}
 use Rattle.engine.specs.Apply.{applied}
 use Rattle.engine.specs.Log.{standing, ranOver}
-use Rattle.lines.specs.Lines.{fieldOf, boundText, tooLong, refusedLine, stopLine}
-use Rattle.lines.specs.Words.{boundWord, noBoundWord}
+use Rattle.wording.specs.Fields.{fieldOf}
+use Rattle.task_lines.specs.Lines.{boundText}
+use Rattle.event_lines.specs.Lines.{tooLong, refusedLine, stopLine}
+use Rattle.wording.specs.Words.{boundWord, noBoundWord}
 use Rattle.listings.specs.declared.Listing.{Listing}
 use Rattle.listings.specs.declared.Listing.the-variants as Listing
 use Rattle.listings.specs.Lent.{room, listAnswer, listedInto}
-use Rattle.listings.specs.Listing.{stateAfter, stopBy, stopText, tableThere, tableBytes, eventBytes, tableListing, listed, listingOf}
+use Rattle.listings.specs.Listing.{stateAfter, stopText, tableThere, tableBytes, eventBytes, tableListing, listed, listingOf}
 use Rattle.listings.proofs.Fits.{listing-fits}
 
 -- ---- bound or `-`

@@ -20,7 +20,8 @@ use Rattle.events.specs.Log.{readable, restOf, eventsOf}
 use Rattle.states.specs.declared.State.{State}
 use Rattle.states.specs.State.{recordAt, freshState}
 use Rattle.engine.specs.Apply.{applied}
-use Rattle.lines.specs.Lines.{tooLong, refusedLine, taskLine, eventLine, stopLine, lastLine}
+use Rattle.task_lines.specs.Lines.{taskLine, lastLine}
+use Rattle.event_lines.specs.Lines.{tooLong, refusedLine, eventLine, stopLine}
 
 -- one line per task: the first n of a table
 unfoldable pub taskLines : Table → ℕ → List ℕ

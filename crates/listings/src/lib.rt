@@ -44,7 +44,7 @@ fn tasks(out: &mut [u8], at: usize, table: Table) -> usize
     let mut i: usize = 0;
     while i < count {
         let found = bound(table, i);
-        place = lines::task(out, place, i, table.tasks[i], found);
+        place = task_lines::task(out, place, i, table.tasks[i], found);
         i += 1;
     }
     place
@@ -69,7 +69,7 @@ fn each_event(out: &mut [u8], at: usize, first: State, log: &[u8]) -> Ended
         state = done.state;
         i += 1;
         let said = done.answer;
-        place = lines::event(out, place, i, said);
+        place = event_lines::event(out, place, i, said);
         from += 20;
     }
 }
@@ -82,7 +82,7 @@ fn stop(out: &mut [u8], at: usize, log: &[u8]) -> usize
     let Reading::Refused(number) = read(left) else {
         return at;
     };
-    lines::stop(out, at, number, log.len() - left.len())
+    event_lines::stop(out, at, number, log.len() - left.len())
 }
 
 // One line per task, as the events have left it.
@@ -93,7 +93,7 @@ fn ends(out: &mut [u8], at: usize, state: State, count: usize) -> usize
     let mut place = at;
     let mut i: usize = 0;
     while i < count {
-        place = lines::last(out, place, i, state.records[i]);
+        place = task_lines::last(out, place, i, state.records[i]);
         i += 1;
     }
     place
@@ -119,7 +119,7 @@ fn of_table(out: &mut [u8], bytes: &[u8], log: &[u8]) -> usize
     let done = table_bytes::reading::read(bytes);
     let answer = done.answer;
     if let Answer::Refused { number, position } = answer {
-        return lines::refused(out, 0, number, position);
+        return event_lines::refused(out, 0, number, position);
     }
     let table = done.table;
     accepted(out, table, log)
@@ -157,11 +157,11 @@ fn written(out: &mut [u8], input: &[u8]) -> usize
     ensures { λ r. ⌜ sheet (now (out .exit)) r ≡ puts (sheet (now (out .entry)) 0) (listingOf (now (input .entry))) ⌝ }
 {
     if 65536 < input.len() {
-        return lines::too_long(out, 0);
+        return event_lines::too_long(out, 0);
     }
     let from = events_from(input);
     if from == 0 {
-        return lines::refused(out, 0, 1, 0);
+        return event_lines::refused(out, 0, 1, 0);
     }
     of_table(out, &input[1..from], &input[from..])
 }

@@ -1,7 +1,7 @@
 -- The digits of a number, one by one: a number of one digit is its glyph, and any other the digits of a tenth of it and then its last.
 -- By induction on tenths they are digits, spell the number, begin with no 0 before another, and are no more than they have to be.
 use Prim.Native.Nat.{ℕ, zero, suc, _+_, _-_, _*_, _/_, _%_, _^_, _≤_, _<_}
-use mathlib.Core.Path.{_≡_, refl, sym, ap, _∙_}
+use mathlib.Core.Path.{_≡_, refl}
 use mathlib.Core.Bool.{Bool, true, false, cond}
 use mathlib.Core.List.{List, [], _∷_, _++_}
 use native.Mathlib.Nat.{not-suc-le-zero, lt-suc-self, pow-suc}
@@ -9,7 +9,7 @@ use native.Mathlib.Decide.{decLt}
 use native.Mathlib.Omega.{arith}
 use lib.Dec.{ltb}
 use lib.ListN.{length, getD, length-append, List·getD-append}
-use borrow.Author.Tests.{lt-ltb, le-ltb, ltb-true, ltb-false}
+use borrow.Author.Tests.{lt-ltb, le-ltb, ltb-false}
 use Rattle.texts.specs.Decimal.{glyph, behind, digitsIn, decimal, readOn, AreDigits}
 
 -- with enough digits the limit does not matter

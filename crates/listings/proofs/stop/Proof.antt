@@ -1,6 +1,6 @@
 -- `listings::stop` meets its contract: what reading says of the rest, and how far into the log it begins.
 use Prim.Native.Nat.{_*_}
-use mathlib.Core.Path.{_≡_, refl, sym, ap, _∙_}
+use mathlib.Core.Path.{sym, ap, _∙_}
 use mathlib.Core.Logic.{⊎-elim}
 use native.Mathlib.Omega.{arith}
 use lib.ListN.{length-drop}
@@ -8,7 +8,6 @@ use Rattle.texts.specs.Sheet.{puts}
 use Rattle.events.specs.Record.{readRecord}
 use Rattle.events.specs.Log.{readable, restOf}
 use Rattle.events.proofs.Rests.{rest-offset}
-use Rattle.lines.specs.Lines.{stopLine}
 use Rattle.listings.specs.Listing.{stopText}
 use Rattle.listings.proofs.Events.{no-stop}
 use borrow.Author.Needs.{needs}

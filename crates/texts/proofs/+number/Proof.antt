@@ -1,6 +1,6 @@
 -- The proof of the cycle of calls {number}: the measure is the number, and a tenth of one that is not below 10 is less than it.
 use Prim.Native.Nat.{ℕ, _<_, _/_}
-use mathlib.Core.Path.{_≡_, sym, ap, subst, _∙_}
+use mathlib.Core.Path.{sym, ap, subst, _∙_}
 use native.Mathlib.Omega.{arith}
 use Rattle.texts.specs.Sheet.{sheet, puts}
 use Rattle.texts.proofs.Sheets.{first-byte, and-byte}

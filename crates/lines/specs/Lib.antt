@@ -1,4 +1,0 @@
--- What the crate's contracts cite.
-pub mod Letters
-pub mod Lines
-pub mod Words

@@ -1,0 +1,4 @@
+-- The words of the listing.
+pub mod Letters
+pub mod Words
+pub mod Fields

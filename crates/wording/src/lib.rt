@@ -1,0 +1,1 @@
+// No code: the words of document 01's listing, letter by letter.
