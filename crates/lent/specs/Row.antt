@@ -1,0 +1,20 @@
+-- A lent row of records and a clock stand for a state that counts the row's records, and a state's tasks are a row.
+use Prim.Native.Nat.{ℕ}
+use mathlib.Core.Bool.{Bool, false, cond}
+use mathlib.Core.List.{List}
+use lib.Dec.{leb}
+use lib.ListN.{length, take}
+use Rattle.tables.specs.Rules.{countHolds}
+use Rattle.records.specs.declared.Record.{Record}
+use Rattle.states.specs.declared.State.{State}
+use Rattle.states.specs.Sound.{limit}
+
+abbrev pub stateOf : List Record → ℕ → State
+stateOf l clock = record { count = length l; clock = clock; records = l }
+
+abbrev pub rowOf : State → List Record
+rowOf s = take (s .count) (s .records)
+
+-- 1 to 16 tasks, and the clock within the limit
+abbrev pub admitted : ℕ → ℕ → Bool
+admitted count clock = cond (countHolds count) (leb clock limit) false

@@ -1,0 +1,42 @@
+// What a scan does with one record, on values.
+use records::Record;
+use soundness::sound;
+use states::Best;
+ghost use mathlib.Core.Path.{_≡_};
+ghost use mathlib.Core.Bool.{cond, false};
+ghost use Rattle.soundness.specs.Sound.{soundHolds};
+ghost use Rattle.states.specs.Choice.{none};
+ghost use Rattle.lent.specs.Row.{admitted};
+
+// No job is chosen where none is passed.
+pub fn no_best() -> Best
+    ensures { λ r. ⌜ r ≡ none ⌝ }
+{
+    Best {
+        found: false,
+        key: 0,
+        at: 0,
+    }
+}
+
+// What is asked of a state before any record is looked at.
+pub fn admits(count: usize, clock: u64) -> bool
+    ensures { λ r. ⌜ r ≡ admitted count clock ⌝ }
+{
+    if count < 1 {
+        return false;
+    }
+    if 16 < count {
+        return false;
+    }
+    clock <= 1000000000000
+}
+
+pub fn sound_on(before: bool, of: Record, clock: u64) -> bool
+    ensures { λ r. ⌜ r ≡ cond before (soundHolds of clock) false ⌝ }
+{
+    if before {
+        return sound(of, clock);
+    }
+    false
+}
