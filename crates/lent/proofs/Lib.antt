@@ -5,3 +5,4 @@ pub mod Rows
 pub mod Locals
 pub mod Called
 pub mod Choices
+pub mod Turns

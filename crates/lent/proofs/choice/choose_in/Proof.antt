@@ -45,7 +45,7 @@ use Rattle.records.specs.Opening.{noRecord}
 use Rattle.states.specs.Choice.{none, better, bestTo}
 use Rattle.records.specs.declared.Record.{Record}
 use Rattle.states.specs.declared.Best.{Best}
-use Rattle.lent.proofs.Called.{record-vals, NoBest, BetterOf, to-no-best, to-better-of, goes-no-best, goes-better-of, no-best-gives, better-of-gives}
+use Rattle.lent.proofs.Called.{record-val, record-vals, NoBest, BetterOf, to-no-best, to-better-of, goes-no-best, goes-better-of, no-best-gives, better-of-gives}
 use Rattle.lent.proofs.Plain.{calls-plain}
 use Rattle.lent.proofs.While.{tests, scaled}
 use Rattle.records.proofs.Record as R
@@ -167,8 +167,8 @@ module _ {M : Type 1} (𝓤 : URA M) (H : Heap 𝓤) (A : Atoms 𝓤) (W : Given
           -- [row[i]; what it owns; the others; the locals, 2 + L k; …]
           assigns ! (of-opd ! (load ! (from ! (hop ! (look ! (2 + L 6) refl) (stop !))) (look-raw ! 0 {τ = R′.mir} refl))) (from ! (stop !)) (init ! (2 + L 7) refl (LL.lawful R.the-type R′.the-laws 𝓤 H A W .typed of _ g .0)) $
           elem-back ! R.the-row q′ ys (t .i) noRecord (record-vals of) b o (ltb→lt (t .i) n less) $
-          calls-plain ! fm (BetterOf 𝓤 H A at-mem run) known-better-of (to-better-of 𝓤 H A at-mem run (t .best) (t .v) of (t .i)) (goes-better-of 𝓤 H A at-mem run W (t .best) (t .v) of (t .i) (t .is) g fits)
-          B.the-row (λ r. r ≡ better (t .best) of (t .i)) (better-of-gives 𝓤 H A at-mem run W (t .best) (t .v) of (t .i))
+          calls-plain ! fm (BetterOf 𝓤 H A at-mem run) known-better-of (to-better-of 𝓤 H A at-mem run (t .best) (t .v) of (record-val of) (t .i)) (goes-better-of 𝓤 H A at-mem run W (t .best) (t .v) of (record-val of) (t .i) (t .is) g fits)
+          B.the-row (λ r. r ≡ better (t .best) of (t .i)) (better-of-gives 𝓤 H A at-mem run W (t .best) (t .v) of (record-val of) (t .i))
           (and-then ! (load ! (from ! (stop !)) (look ! (1 + L 2) refl)) (and-then ! (load ! (from ! (stop !)) (look ! (1 + L 7) refl)) (and-then ! (load ! (from ! (stop !)) (look ! (1 + L 3) refl)) (no-more !)))) (λ v′ r e is.
           land ! (from ! (stop !)) (store ! (L 2) refl (LL.lawful B.the-type B′.the-laws 𝓤 H A W .typed r _ is .0)) $
           assigns-last ! (bin ! (load ! (from ! (stop !)) (look ! (L 3) refl)) (lit ! tt) (record { fits = next-fits less })) (from ! (stop !)) (store ! (L 3) refl (tt, record { fits = next-fits less })) $

@@ -50,7 +50,7 @@ use Rattle.soundness.specs.Sound.{soundHolds}
 use Rattle.states.specs.Sound.{limit, eachHolds, stateHolds}
 use Rattle.lent.specs.Row.{stateOf, admitted}
 use Rattle.records.specs.declared.Record.{Record}
-use Rattle.lent.proofs.Called.{record-vals, Admits, SoundOn, to-admits, to-sound-on, goes-admits, goes-sound-on, admits-gives, sound-on-gives}
+use Rattle.lent.proofs.Called.{record-val, record-vals, Admits, SoundOn, to-admits, to-sound-on, goes-admits, goes-sound-on, admits-gives, sound-on-gives}
 use Rattle.lent.proofs.Plain.{calls-plain}
 use Rattle.lent.proofs.While.{tests, scaled}
 use Rattle.records.proofs.Record as R
@@ -200,8 +200,8 @@ module _ {M : Type 1} (𝓤 : URA M) (H : Heap 𝓤) (A : Atoms 𝓤) (W : Given
           -- [row[i]; what it owns; the others; the locals, 2 + L k; …]
           assigns ! (of-opd ! (load ! (from ! (hop ! (look ! (2 + L 8) refl) (stop !))) (look-raw ! 0 {τ = R′.mir} refl))) (from ! (stop !)) (init ! (2 + L 9) refl (LL.lawful R.the-type R′.the-laws 𝓤 H A W .typed of _ g .0)) $
           elem-back ! R.the-row q′ ys (t .i) noRecord (record-vals of) b o (ltb→lt (t .i) n less) $
-          calls-plain ! fm (SoundOn 𝓤 H A at-mem run) known-sound-on (to-sound-on 𝓤 H A at-mem run (t .holds) (t .v) of c) (goes-sound-on 𝓤 H A at-mem run W (t .holds) (t .v) of c (t .is) g c-fits)
-          bool (λ r. r ≡ cond (t .holds) (soundHolds of c) false) (sound-on-gives 𝓤 H A at-mem run W (t .holds) (t .v) of c)
+          calls-plain ! fm (SoundOn 𝓤 H A at-mem run) known-sound-on (to-sound-on 𝓤 H A at-mem run (t .holds) (t .v) of (record-val of) c) (goes-sound-on 𝓤 H A at-mem run W (t .holds) (t .v) of (record-val of) c (t .is) g c-fits)
+          bool (λ r. r ≡ cond (t .holds) (soundHolds of c) false) (sound-on-gives 𝓤 H A at-mem run W (t .holds) (t .v) of (record-val of) c)
           (and-then ! (load ! (from ! (stop !)) (look ! (1 + L 3) refl)) (and-then ! (load ! (from ! (stop !)) (look ! (1 + L 9) refl)) (and-then ! (load ! (from ! (stop !)) (look ! (1 + L 2) refl)) (no-more !)))) (λ v′ r e is.
           land ! (from ! (stop !)) (store ! (L 3) refl (bool-lawful 𝓤 H A W .typed r _ is .0)) $
           assigns-last ! (bin ! (load ! (from ! (stop !)) (look ! (L 4) refl)) (lit ! tt) (record { fits = next-fits less })) (from ! (stop !)) (store ! (L 4) refl (tt, record { fits = next-fits less })) $
