@@ -6,3 +6,4 @@ pub mod Locals
 pub mod Called
 pub mod Choices
 pub mod Turns
+pub mod Fronts
