@@ -18,6 +18,7 @@ use denote.RattleType.{RattleType}
 use denote.Laws.{Is}
 use denote.Plain.{uint-makes, bool-makes}
 use denote.Builtin.{u64, usize, bool}
+use denote.Array.{Array, array-makes}
 use denote.Steps.{owned, nothing}
 use denote.Struct.Laws as LL
 use denote.Enum.Laws as EL
@@ -33,11 +34,12 @@ use Rattle.states.specs.declared.Best.{Best}
 use Rattle.states.specs.Choice.{none, better}
 use Rattle.engine.specs.declared.Answer.{Answer}
 use Rattle.engine.specs.declared.Ruling.{Ruling}
+use Rattle.engine.specs.declared.Applied.{Applied}
 use Rattle.engine.specs.Apply.{toldOf}
 use Rattle.engine.specs.Ruling.{seatOf, ruled}
 use Rattle.lent.specs.declared.Turn.{Turn}
 use Rattle.lent.specs.Row.{admitted}
-use Rattle.lent.specs.Turns.{unsound, acceptedTurn, refusedTurn}
+use Rattle.lent.specs.Turns.{unsound, acceptedTurn, refusedTurn, placedBy}
 use Rattle.events.proofs.Event as E
 use Rattle.events.proofs.Event.Laws as E′
 use Rattle.records.proofs.Record as R
@@ -48,6 +50,8 @@ use Rattle.engine.proofs.Answer as S
 use Rattle.engine.proofs.Answer.Laws as S′
 use Rattle.engine.proofs.Ruling as Q
 use Rattle.engine.proofs.Ruling.Laws as Q′
+use Rattle.engine.proofs.Applied as P
+use Rattle.engine.proofs.Applied.Laws as P′
 use Rattle.lent.proofs.Turn as U
 use Rattle.lent.proofs.Turn.Laws as U′
 use Rattle.records.proofs.closing.close as close
@@ -62,6 +66,7 @@ use Rattle.lent.proofs.steps.told_of as told-of
 use Rattle.lent.proofs.steps.unsound_ruling as unsound-ruling
 use Rattle.lent.proofs.steps.accepted_turn as accepted-turn
 use Rattle.lent.proofs.steps.refused_turn as refused-turn
+use Rattle.lent.proofs.steps.placed as placed
 use Rattle.lent.proofs.Plain.{Gives}
 
 -- machine values, and the same as a list of one
@@ -121,6 +126,9 @@ module _ {M : Type 1} (𝓤 : URA M) (H : Heap 𝓤) (A : Atoms 𝓤) (at-mem : 
   abbrev pub RefusedTurn : Contract 𝓤
   RefusedTurn = tripleOf 𝓤 H A refused-turn.signature (refused-turn.spec 𝓤 H A at-mem run)
 
+  abbrev pub Placed : Contract 𝓤
+  Placed = tripleOf 𝓤 H A placed.signature (placed.spec 𝓤 H A at-mem run)
+
   -- ---- what is bound at a call
   abbrev pub to-close : (h : Record) (hv : Val) (m : Bool) (mv : Val) → Close .Ghost
   to-close h hv m mv = ((tt, tt, tt, (h, (m, tt)), (hv ∷ [], (mv ∷ [], tt))), tt)
@@ -157,6 +165,9 @@ module _ {M : Type 1} (𝓤 : URA M) (H : Heap 𝓤) (A : Atoms 𝓤) (at-mem : 
 
   abbrev pub to-refused-turn : (q : Ruling) (qv : Val) (c : ℕ) → RefusedTurn .Ghost
   to-refused-turn q qv c = ((tt, tt, tt, (q, (c, tt)), (qv ∷ [], (vint w64 c ∷ [], tt))), tt)
+
+  abbrev pub to-placed : (u : Turn) (uv : Val) (n : ℕ) (l : List Record) (lv : Val) → Placed .Ghost
+  to-placed u uv n l lv = ((tt, tt, tt, (u, (n, (l, tt))), (uv ∷ [], (vint w64 n ∷ [], (lv ∷ [], tt)))), tt)
 
   module _ (W : Given 𝓤 H A) where
     -- ---- what a callee asks, plain data has for nothing
@@ -232,6 +243,13 @@ module _ {M : Type 1} (𝓤 : URA M) (H : Heap 𝓤) (A : Atoms 𝓤) (at-mem : 
         owned ! u64 (Is u64) (uint-makes 𝓤 H A W w64) c (vint w64 c ∷ []) (refl, c-is) $ fjoin ! $
         owned ! Q.the-row (Is Q.the-row) (LL.makes Q.the-type Q′.the-plain 𝓤 H A) q (qv ∷ []) q-is $ fjoin ! $ nothing ! $ join ! $ frame ! $ done !
 
+    pub goes-placed : (u : Turn) (uv : Val) (n : ℕ) (l : List Record) (lv : Val) → Is U.the-row u (uv ∷ []) → n < 2 ^ 64 → Is (Array R.the-row 16) l (lv ∷ []) → ent 𝓤 (emp 𝓤) (Placed .pre (to-placed u uv n l lv))
+    goes-placed u uv n l lv u-is n-is l-is =
+        qed W [] ∵ nothing ! $
+        owned ! (Array R.the-row 16) (Is (Array R.the-row 16)) (array-makes 𝓤 H A W R.the-row (LL.makes R.the-type R′.the-plain 𝓤 H A) 16) l (lv ∷ []) l-is $ fjoin ! $
+        owned ! usize (Is usize) (uint-makes 𝓤 H A W w64) n (vint w64 n ∷ []) (refl, n-is) $ fjoin ! $
+        owned ! U.the-row (Is U.the-row) (LL.makes U.the-type U′.the-plain 𝓤 H A) u (uv ∷ []) u-is $ fjoin ! $ nothing ! $ join ! $ frame ! $ done !
+
     -- ---- what it gives: a `post` with no lifetime and no `&mut`, once what it says of last values is let go
     taken : (D : RattleType) (φ : D .Denot → Type 0) (said : D .Denot → SProp 𝓤) (v : Val) → ((r : D .Denot) → ent 𝓤 (said r) (fact 𝓤 (φ r)))
         → ent 𝓤 (H .⇛ (ex 𝓤 (λ (r : D .Denot). sep 𝓤 (sep 𝓤 (emp 𝓤) (sem 𝓤 H A (D .own r (v ∷ [])))) (said r)))) (H .⇛ (ex 𝓤 (λ (r : D .Denot). sep 𝓤 (sem 𝓤 H A (D .own r (v ∷ []))) (fact 𝓤 (φ r)))))
@@ -286,3 +304,7 @@ module _ {M : Type 1} (𝓤 : URA M) (H : Heap 𝓤) (A : Atoms 𝓤) (at-mem : 
     pub refused-turn-gives : (q : Ruling) (qv : Val) (c : ℕ) → Gives 𝓤 H A RefusedTurn (to-refused-turn q qv c) U.the-row (λ r. r ≡ refusedTurn q c)
     refused-turn-gives q qv c w = taken U.the-row (λ r. r ≡ refusedTurn q c) (ensured 𝓤 H A refused-turn.ended (refused-turn.clauses 𝓤 H A at-mem run) tt (q, (c, tt)) tt) w
         (λ r. exE 𝓤 _ (λ ws. snd∗ 𝓤 (sem 𝓤 H A (lasts refused-turn.ended tt (q, (c, tt)) ws)) (fact 𝓤 (r ≡ refusedTurn q c))))
+
+    pub placed-gives : (u : Turn) (uv : Val) (n : ℕ) (l : List Record) (lv : Val) → Gives 𝓤 H A Placed (to-placed u uv n l lv) P.the-row (λ r. r ≡ placedBy u n l)
+    placed-gives u uv n l lv w = taken P.the-row (λ r. r ≡ placedBy u n l) (ensured 𝓤 H A placed.ended (placed.clauses 𝓤 H A at-mem run) tt (u, (n, (l, tt))) tt) w
+        (λ r. exE 𝓤 _ (λ ws. snd∗ 𝓤 (sem 𝓤 H A (lasts placed.ended tt (u, (n, (l, tt))) ws)) (fact 𝓤 (r ≡ placedBy u n l))))

@@ -6,6 +6,7 @@ use mathlib.Core.List.{List, [], _∷_, _++_}
 use native.Mathlib.Decide.{ℕ-discrete}
 use native.Mathlib.Nat.{le-refl, not-suc-le-zero}
 use native.Mathlib.Omega.{arith}
+use borrow.Author.Tests.{le-leb, lt-leb}
 use lib.ListN.{length, getD, set, take, drop, length-take, take-append-drop}
 use lib.Seq.{getD-take}
 use Rattle.laws.specs.Stores.{filled}
@@ -22,15 +23,19 @@ use Rattle.states.specs.Sound.{StateSound, eachHolds, stateHolds}
 use Rattle.states.specs.Choice.{bestTo}
 use Rattle.states.proofs.Least.{best-within}
 use Rattle.states.proofs.Sounding.{state-tells}
+use Rattle.engine.specs.declared.Answer.{Answer}
 use Rattle.engine.specs.declared.Applied.{Applied}
 use Rattle.engine.specs.declared.Ruling.{Ruling}
 use Rattle.engine.specs.Steps.{expiredAll}
 use Rattle.engine.specs.Apply.{toldOf, answerOf, moved, accepted, refused, acted, applied}
 use Rattle.engine.specs.Ruling.{seatOf, ruled}
+use Rattle.engine.proofs.Frame.{count-stays}
 use Rattle.engine.proofs.Rulings.{Decides, refused-by, accepted-by, decided}
+use Rattle.lent.specs.declared.Turn.{Turn}
 use Rattle.lent.specs.Row.{stateOf, rowOf}
+use Rattle.lent.specs.Turns.{placedBy}
 use Rattle.lent.proofs.Choices.{best-front}
-use Rattle.lent.proofs.Turns.{seat-below}
+use Rattle.lent.proofs.Turns.{seat-below, Said}
 
 -- ---- the front and the rest of a row that is stored to
 
@@ -155,3 +160,18 @@ module _ (s : State) (e : Event) where
   in-place h =
       let long : length (rowOf s) ≡ n = length-take n l ∙ omega arith in
       subst (λ (k : ℕ). Same (applied (record { count = k; clock = s .clock; records = take n l }) e) (applied s e)) (sym long) same
+
+  -- the turn over the row, put back in front of what lies behind it
+  pub placed-is : n ≤ length l → (u : Turn) (zs : List Record) → Said (rowOf s) (s .clock) e u zs → placedBy u n (zs ++ drop n l) ≡ applied s e
+  placed-is h u zs said =
+      let g = in-place h in
+      made (said .0 ∙ g .answer) (sym (count-stays s e)) (said .1 .0 ∙ g .clock) (ap (λ (r : List Record). r ++ drop n l) (said .1 .1) ∙ sym (whole g))
+    where
+      made : {a a′ : Answer} {k k′ c c′ : ℕ} {r r′ : List Record} → a ≡ a′ → k ≡ k′ → c ≡ c′ → r ≡ r′
+          → _≡_ {A = Applied} (record { answer = a; state = record { count = k; clock = c; records = r } }) (record { answer = a′; state = record { count = k′; clock = c′; records = r′ } })
+      made p q o w = rw (p, q, o, w)
+
+-- more than 16 tasks are never sound
+pub over-most : (s : State) (e : Event) → 16 < s .count → refused s 15 ≡ applied s e
+unfolding applied stateHolds
+over-most s e h = rw (le-leb 1 (s .count) (omega arith), lt-leb (s .count) 16 h)

@@ -11,6 +11,7 @@ use Rattle.states.specs.Sound.{stateHolds}
 use Rattle.states.specs.Choice.{bestTo}
 use Rattle.engine.specs.declared.Answer.{Answer}
 use Rattle.engine.specs.declared.Answer.the-variants.{Refused}
+use Rattle.engine.specs.declared.Applied.{Applied}
 use Rattle.engine.specs.declared.Ruling.{Ruling}
 use Rattle.engine.specs.Apply.{toldOf}
 use Rattle.engine.specs.Ruling.{seatOf, kept, ruled}
@@ -42,3 +43,7 @@ acceptedTurn a e = record { answer = a; clock = e .time }
 
 abbrev pub refusedTurn : Ruling → ℕ → Turn
 refusedTurn r clock = record { answer = Refused (r .refusal); clock = clock }
+
+-- a turn over the row, as the state that it leaves
+abbrev pub placedBy : Turn → ℕ → List Record → Applied
+placedBy u count l = record { answer = u .answer; state = record { count = count; clock = u .clock; records = l } }

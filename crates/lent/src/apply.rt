@@ -3,19 +3,22 @@ use super::Turn;
 use super::sound::is_sound_in;
 use super::steps::accepted_turn;
 use super::steps::no_best;
+use super::steps::placed;
 use super::steps::refused_turn;
 use super::steps::seat_of;
 use super::steps::told_of;
 use super::steps::unsound_ruling;
 use engine::Answer;
+use engine::Applied;
 use engine::Ruling;
 use engine::judging::rule;
 use events::Event;
 use records::Record;
 use records::opening::expire;
+use states::State;
 use states::choice::better_of;
 ghost use mathlib.Core.Path.{_≡_};
-ghost use Prim.Native.Nat.{_<_};
+ghost use Prim.Native.Nat.{_≤_, _<_};
 ghost use lib.ListN.{length};
 ghost use Rattle.engine.specs.Apply.{applied};
 ghost use Rattle.lent.specs.Row.{stateOf};
@@ -61,4 +64,28 @@ pub fn apply_in(row: &mut [Record], clock: u64, event: Event) -> Turn
     } else {
         refused_turn(ruling, clock)
     }
+}
+
+// The first records of an array are lent, and what lies behind them stays.
+fn apply_front(records: [Record; 16], count: usize, clock: u64, event: Event) -> Applied
+    requires { ⌜ count ≤ 16 ⌝ }
+    ensures { λ r. ⌜ r ≡ applied (record { count = count; clock = clock; records = records }) event ⌝ }
+{
+    let mut row = records;
+    let turn = apply_in(&mut row[..count], clock, event);
+    placed(turn, count, row)
+}
+
+// The same by value: its contract is the engine's own, and whoever calls it needs no walk.
+pub fn apply_of(state: State, event: Event) -> Applied
+    ensures { λ r. ⌜ r ≡ applied state event ⌝ }
+{
+    if 16 < state.count {
+        return Applied {
+            answer: Answer::Refused(15),
+            state: state,
+        };
+    }
+    let records = state.records;
+    apply_front(records, state.count, state.clock, event)
 }

@@ -1,6 +1,7 @@
 // What the walks do with one record, and with an event's ruling, on values.
 use super::Turn;
 use engine::Answer;
+use engine::Applied;
 use engine::Ruling;
 use engine::judging::seat;
 use engine::telling::told;
@@ -8,6 +9,7 @@ use events::Event;
 use records::Record;
 use soundness::sound;
 use states::Best;
+use states::State;
 use tables::Task;
 ghost use mathlib.Core.Path.{_≡_};
 ghost use mathlib.Core.Bool.{cond, false};
@@ -16,7 +18,7 @@ ghost use Rattle.states.specs.Choice.{none};
 ghost use Rattle.engine.specs.Apply.{toldOf};
 ghost use Rattle.engine.specs.Ruling.{seatOf};
 ghost use Rattle.lent.specs.Row.{admitted};
-ghost use Rattle.lent.specs.Turns.{unsound, refusedTurn, acceptedTurn};
+ghost use Rattle.lent.specs.Turns.{unsound, refusedTurn, acceptedTurn, placedBy};
 
 // No job is chosen where none is passed.
 pub fn no_best() -> Best
@@ -110,5 +112,21 @@ pub fn refused_turn(ruling: Ruling, clock: u64) -> Turn
     Turn {
         answer: Answer::Refused(ruling.refusal),
         clock: clock,
+    }
+}
+
+// The row behind the count comes back to its state.
+pub fn placed(turn: Turn, count: usize, records: [Record; 16]) -> Applied
+    ensures { λ r. ⌜ r ≡ placedBy turn count records ⌝ }
+{
+    let answer = turn.answer;
+    let state = State {
+        count: count,
+        clock: turn.clock,
+        records: records,
+    };
+    Applied {
+        answer: answer,
+        state: state,
     }
 }
