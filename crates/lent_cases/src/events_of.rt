@@ -24,8 +24,8 @@ fn task(x: u64) -> Task {
         c: c as u32,
         d: d as u32,
         t: t as u32,
-        m: m as u8,
-        k: k as u8,
+        m: (m % 256) as u8,
+        k: (k % 256) as u8,
     }
 }
 
@@ -46,7 +46,7 @@ pub fn table(seed: u64) -> Table {
             let one = task(x);
             tasks[i] = one;
         }
-        x = next(x + 1);
+        x = next(x);
         i += 1;
     }
     Table {
@@ -101,7 +101,7 @@ pub fn event(state: State, x: u64) -> Event {
     if kind < 12 {
         return Event {
             kind: 1,
-            task: task as u8,
+            task: (task % 256) as u8,
             job: 0,
             time: time,
         };
@@ -110,14 +110,14 @@ pub fn event(state: State, x: u64) -> Event {
         let job = job_of(state, task, x3);
         return Event {
             kind: 2,
-            task: task as u8,
+            task: (task % 256) as u8,
             job: job,
             time: time,
         };
     }
     Event {
         kind: pick(x3, 4) as u8,
-        task: task as u8,
+        task: (task % 256) as u8,
         job: pick(x3, 3),
         time: time,
     }

@@ -43,7 +43,7 @@ fn step(walk: Walk) -> Walk {
     let x = next(walk.x);
     let state = walk.state;
     let happens = event(state, x);
-    let asked = spoilt(state, next(x + 99));
+    let asked = spoilt(state, next(next(x)));
     let value = apply(asked, happens);
     let place = apply_of(asked, happens);
     let same = both(value, place);

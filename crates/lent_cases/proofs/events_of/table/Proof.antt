@@ -1,67 +1,50 @@
+-- `events_of::table` is safe and ends: i stays within the places.
+use Prim.Native.Nat.{_-_, _≤_}
+use borrow.Author.Needs.{needs}
 use Rattle.lent_cases.proofs.events_of.table.Statement.{statement}
 use Rattle.lent_cases.proofs.events_of.table.Tie as tie
-use Rattle.lent_cases.proofs.events_of.table.Reads as reads
-use Rattle.lent_cases.proofs.events_of.table.Lts as lts
-use Rattle.lent_cases.proofs.dice.next.Reads as next-reads
-use Rattle.lent_cases.proofs.events_of.task.Reads as task-reads
 
 abbrev Inv-loop : tie.InvT-loop
-Inv-loop seed count tasks₀ x₀ i₀ tasks x i = ?
+Inv-loop seed count tasks₀ x₀ i₀ tasks x i = i ≤ 16
 
 abbrev μ-loop : tie.MeasureT-loop
-μ-loop seed count tasks₀ x₀ i₀ tasks x i = ?
+μ-loop seed count tasks₀ x₀ i₀ tasks x i = 16 - i
 
--- src/events_of.rt:33:18
 add-count : tie.Need-add-count Inv-loop μ-loop
-add-count c = ?
+add-count c = search needs
 
--- src/events_of.rt:42:22
 add-next : tie.Need-add-next Inv-loop μ-loop
-add-next c = ?
+add-next c = search needs
 
--- src/events_of.rt:42:9
 next-requires : tie.Need-next-requires Inv-loop μ-loop
-next-requires c κs = ?
+next-requires c κs = search needs
 
--- src/events_of.rt:44:5
 loop-holds : tie.Need-loop-holds Inv-loop μ-loop
-loop-holds c = ?
+loop-holds c = search needs
 
--- src/events_of.rt:46:17
 task-requires : tie.Need-task-requires Inv-loop μ-loop
-task-requires c κs = ?
+task-requires c κs = search needs
 
--- src/events_of.rt:47:13
 mul-tasks : tie.Need-mul-tasks Inv-loop μ-loop
-mul-tasks c = ?
+mul-tasks c = search needs
 
--- src/events_of.rt:47:13
 array-set-from-tasks : tie.Need-array-set-from-tasks Inv-loop μ-loop
-array-set-from-tasks c = ?
+array-set-from-tasks c = search needs
 
--- src/events_of.rt:49:18
-add-next-2 : tie.Need-add-next-2 Inv-loop μ-loop
-add-next-2 c = ?
-
--- src/events_of.rt:49:9
 next-requires-2 : tie.Need-next-requires-2 Inv-loop μ-loop
-next-requires-2 c κs = ?
+next-requires-2 c κs = search needs
 
--- src/events_of.rt:50:9
 add-i : tie.Need-add-i Inv-loop μ-loop
-add-i c = ?
+add-i c = search needs
 
--- src/events_of.rt:44:5
 loop-less : tie.Need-loop-less Inv-loop μ-loop
-loop-less c = ?
+loop-less c = search needs
 
--- src/events_of.rt:44:5
 loop-again : tie.Need-loop-again Inv-loop μ-loop
-loop-again c = ?
+loop-again c = search needs
 
--- src/events_of.rt:32:1
 returns : tie.Need-returns Inv-loop μ-loop
-returns c = ?
+returns c = search needs
 
 pub table-spec : {M : Type 1} → statement M
 table-spec =
@@ -76,7 +59,6 @@ table-spec =
     task-requires
     mul-tasks
     array-set-from-tasks
-    add-next-2
     next-requires-2
     add-i
     loop-less

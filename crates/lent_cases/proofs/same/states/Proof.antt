@@ -1,66 +1,53 @@
+-- `same::states` is safe and ends: i stays within the places.
+use Prim.Native.Nat.{_-_, _≤_}
+use borrow.Author.Needs.{needs}
 use Rattle.lent_cases.proofs.same.states.Statement.{statement}
 use Rattle.lent_cases.proofs.same.states.Tie as tie
-use Rattle.lent_cases.proofs.same.states.Reads as reads
-use Rattle.lent_cases.proofs.same.states.Lts as lts
-use Rattle.lent_cases.proofs.same.records.Reads as records-reads
 
 abbrev Inv-loop : tie.InvT-loop
-Inv-loop a b i₀ i = ?
+Inv-loop a b i₀ i = i ≤ 16
 
 abbrev μ-loop : tie.MeasureT-loop
-μ-loop a b i₀ i = ?
+μ-loop a b i₀ i = 16 - i
 
--- src/same.rt:67:9
 returns : tie.Need-returns Inv-loop μ-loop
-returns c = ?
+returns c = search needs
 
--- src/same.rt:70:9
 returns-2 : tie.Need-returns-2 Inv-loop μ-loop
-returns-2 c = ?
+returns-2 c = search needs
 
--- src/same.rt:73:5
 loop-holds : tie.Need-loop-holds Inv-loop μ-loop
-loop-holds c = ?
+loop-holds c = search needs
 
--- src/same.rt:74:20
 mul-records : tie.Need-mul-records Inv-loop μ-loop
-mul-records c = ?
+mul-records c = search needs
 
--- src/same.rt:74:20
 element-copy-out-records : tie.Need-element-copy-out-records Inv-loop μ-loop
-element-copy-out-records c = ?
+element-copy-out-records c = search needs
 
--- src/same.rt:74:34
 mul-records-2 : tie.Need-mul-records-2 Inv-loop μ-loop
-mul-records-2 c = ?
+mul-records-2 c = search needs
 
--- src/same.rt:74:34
 element-copy-out-records-2 : tie.Need-element-copy-out-records-2 Inv-loop μ-loop
-element-copy-out-records-2 c = ?
+element-copy-out-records-2 c = search needs
 
--- src/same.rt:74:12
 records-requires : tie.Need-records-requires Inv-loop μ-loop
-records-requires c κs = ?
+records-requires c κs = search needs
 
--- src/same.rt:75:13
 add-i : tie.Need-add-i Inv-loop μ-loop
-add-i c = ?
+add-i c = search needs
 
--- src/same.rt:73:5
 loop-less : tie.Need-loop-less Inv-loop μ-loop
-loop-less c = ?
+loop-less c = search needs
 
--- src/same.rt:73:5
 loop-again : tie.Need-loop-again Inv-loop μ-loop
-loop-again c = ?
+loop-again c = search needs
 
--- src/same.rt:77:13
 returns-3 : tie.Need-returns-3 Inv-loop μ-loop
-returns-3 c = ?
+returns-3 c = search needs
 
--- src/same.rt:65:1
 returns-4 : tie.Need-returns-4 Inv-loop μ-loop
-returns-4 c = ?
+returns-4 c = search needs
 
 pub states-spec : {M : Type 1} → statement M
 states-spec =
