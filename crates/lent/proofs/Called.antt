@@ -33,10 +33,9 @@ use Rattle.soundness.specs.Sound.{soundHolds}
 use Rattle.states.specs.declared.Best.{Best}
 use Rattle.states.specs.Choice.{none, better}
 use Rattle.engine.specs.declared.Answer.{Answer}
-use Rattle.engine.specs.declared.Ruling.{Ruling}
-use Rattle.engine.specs.declared.Applied.{Applied}
+use Rattle.rulings.specs.declared.Ruling.{Ruling}
 use Rattle.engine.specs.Apply.{toldOf}
-use Rattle.engine.specs.Ruling.{seatOf, ruled}
+use Rattle.rulings.specs.Ruling.{seatOf, ruled}
 use Rattle.lent.specs.declared.Turn.{Turn}
 use Rattle.lent.specs.Row.{admitted}
 use Rattle.lent.specs.Turns.{unsound, acceptedTurn, refusedTurn, placedBy}
@@ -48,16 +47,15 @@ use Rattle.states.proofs.Best as B
 use Rattle.states.proofs.Best.Laws as B′
 use Rattle.engine.proofs.Answer as S
 use Rattle.engine.proofs.Answer.Laws as S′
-use Rattle.engine.proofs.Ruling as Q
-use Rattle.engine.proofs.Ruling.Laws as Q′
+use Rattle.rulings.proofs.Ruling as Q
+use Rattle.rulings.proofs.Ruling.Laws as Q′
 use Rattle.engine.proofs.Applied as P
-use Rattle.engine.proofs.Applied.Laws as P′
 use Rattle.lent.proofs.Turn as U
 use Rattle.lent.proofs.Turn.Laws as U′
 use Rattle.records.proofs.closing.close as close
 use Rattle.records.proofs.opening.expire as expire
 use Rattle.states.proofs.choice.better_of as better-of
-use Rattle.engine.proofs.judging.rule as rule
+use Rattle.rulings.proofs.judging.rule as rule
 use Rattle.lent.proofs.steps.no_best as no-best
 use Rattle.lent.proofs.steps.admits as admits
 use Rattle.lent.proofs.steps.sound_on as sound-on

@@ -1,7 +1,7 @@
 -- An event over the row of a state's tasks comes to what it comes to over the state: no test looks past the tasks, and no step stores there.
 use Prim.Native.Nat.{ℕ, zero, suc, min, _≤_, _<_}
 use mathlib.Core.Path.{_≡_, refl, sym, ap, subst, _∙_}
-use mathlib.Core.Bool.{Bool, true, false, cond}
+use mathlib.Core.Bool.{Bool, true, false}
 use mathlib.Core.List.{List, [], _∷_, _++_}
 use native.Mathlib.Decide.{ℕ-discrete}
 use native.Mathlib.Nat.{le-refl, not-suc-le-zero}
@@ -11,11 +11,9 @@ use lib.ListN.{length, getD, set, take, drop, length-take, take-append-drop}
 use lib.Seq.{getD-take}
 use Rattle.laws.specs.Stores.{filled}
 use Rattle.laws.proofs.Stores.{filled-same}
-use Rattle.laws.proofs.Tests.{tells-true}
 use Rattle.events.specs.declared.Event.{Event}
 use Rattle.records.specs.declared.Record.{Record}
 use Rattle.records.specs.Opening.{expired, noRecord}
-use Rattle.soundness.specs.Sound.{soundHolds}
 use Rattle.states.specs.declared.Best.{Best}
 use Rattle.states.specs.declared.State.{State}
 use Rattle.states.specs.State.{recordAt}
@@ -25,17 +23,18 @@ use Rattle.states.proofs.Least.{best-within}
 use Rattle.states.proofs.Sounding.{state-tells}
 use Rattle.engine.specs.declared.Answer.{Answer}
 use Rattle.engine.specs.declared.Applied.{Applied}
-use Rattle.engine.specs.declared.Ruling.{Ruling}
+use Rattle.rulings.specs.declared.Ruling.{Ruling}
 use Rattle.engine.specs.Steps.{expiredAll}
 use Rattle.engine.specs.Apply.{toldOf, answerOf, moved, accepted, refused, acted, applied}
-use Rattle.engine.specs.Ruling.{seatOf, ruled}
+use Rattle.rulings.specs.Ruling.{seatOf, ruled}
 use Rattle.engine.proofs.Frame.{count-stays}
 use Rattle.engine.proofs.Rulings.{Decides, refused-by, accepted-by, decided}
 use Rattle.lent.specs.declared.Turn.{Turn}
 use Rattle.lent.specs.Row.{stateOf, rowOf}
 use Rattle.lent.specs.Turns.{placedBy}
 use Rattle.lent.proofs.Choices.{best-front}
-use Rattle.lent.proofs.Turns.{seat-below, Said}
+use Rattle.rulings.proofs.Prompt.{seat-below}
+use Rattle.lent.proofs.Turns.{Said}
 
 -- ---- the front and the rest of a row that is stored to
 

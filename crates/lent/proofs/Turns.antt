@@ -1,40 +1,36 @@
 -- An event in place comes to what the engine's `applied` says of the row's state: by the ruling on the event's own record, and by the row settled position by position.
-use Prim.Native.Nat.{ℕ, suc, min, _+_, _≤_, _<_}
+use Prim.Native.Nat.{ℕ, suc, min, _+_, _<_}
 use mathlib.Core.Path.{_≡_, refl, sym, ap, subst, _∙_}
 use mathlib.Core.Bool.{Bool, true, false, not, cond}
 use mathlib.Core.List.{List}
 use native.Mathlib.Nat.{le-refl}
 use native.Mathlib.Numerals.{add-one}
 use native.Mathlib.Omega.{arith}
-use borrow.Author.Tests.{ltb-true, eqb-true, eqb-false}
-use lib.Dec.{T, eqb, ltb}
+use borrow.Author.Tests.{eqb-true, eqb-false}
+use lib.Dec.{T, eqb}
 use lib.ListN.{length, getD, set, length-set}
 use lib.Seq.{getD-set-same}
 use Rattle.laws.proofs.Stores.{length-filled}
-use Rattle.laws.proofs.Tests.{by-test, tells-true}
+use Rattle.laws.proofs.Tests.{tells-true}
 use Rattle.events.specs.declared.Event.{Event}
 use Rattle.records.specs.declared.Record.{Record}
 use Rattle.records.specs.Opening.{expired, noRecord}
 use Rattle.states.specs.declared.Best.{Best}
 use Rattle.states.specs.declared.State.{State}
 use Rattle.states.specs.Sound.{StateSound, stateHolds}
-use Rattle.states.specs.Choice.{none, better, bestTo}
+use Rattle.states.specs.Choice.{better, bestTo}
 use Rattle.states.proofs.Least.{best-within}
 use Rattle.states.proofs.Sounding.{state-tells}
 use Rattle.engine.specs.declared.Answer.{Answer}
 use Rattle.engine.specs.declared.Applied.{Applied}
-use Rattle.engine.specs.declared.Ruling.{Ruling}
-use Rattle.engine.specs.Apply.{toldOf, answerOf, moved, accepted, refused, acted, applied}
-use Rattle.engine.specs.Ruling.{seatOf, ruled}
-use Rattle.engine.proofs.Rulings.{Decides, Accepts, refused-by, accepted-by, decided}
-use Rattle.engine.proofs.Settled.{settledTo, Settling, settling-none, settling-more, stored-first}
+use Rattle.rulings.specs.declared.Ruling.{Ruling}
+use Rattle.engine.specs.Apply.{toldOf, answerOf, moved, refused, acted, applied}
+use Rattle.rulings.specs.Ruling.{ruled}
+use Rattle.engine.proofs.Rulings.{Accepts, refused-by, accepted-by, decided}
+use Rattle.engine.proofs.Settled.{settledTo, Settling, settling-more, stored-first}
 use Rattle.lent.specs.declared.Turn.{Turn}
 use Rattle.lent.specs.Row.{stateOf}
 use Rattle.lent.specs.Turns.{seatIn, ruledRow, unsound, storedRow, settledRow, rowAnswer, acceptedTurn, refusedTurn}
-
--- an event's seat is a place of the row
-pub seat-below : (task n : ℕ) → 0 < n → seatOf task n < n
-seat-below task n h = by-test (λ (k : ℕ). k < n) (ltb task n) task 0 (λ e. ltb-true task n e) (λ e. h)
 
 -- ---- the loop that settles a row
 

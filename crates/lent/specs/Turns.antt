@@ -1,6 +1,6 @@
 -- The parts of an event in place. `apply_in`'s contract is the engine's `applied` alone; what these come to is shown in `Turns`.
 use Prim.Native.Nat.{ℕ}
-use mathlib.Core.Bool.{Bool, cond}
+use mathlib.Core.Bool.{cond}
 use mathlib.Core.List.{List}
 use lib.ListN.{length, getD, set}
 use Rattle.laws.specs.Stores.{filled}
@@ -12,9 +12,9 @@ use Rattle.states.specs.Choice.{bestTo}
 use Rattle.engine.specs.declared.Answer.{Answer}
 use Rattle.engine.specs.declared.Answer.the-variants.{Refused}
 use Rattle.engine.specs.declared.Applied.{Applied}
-use Rattle.engine.specs.declared.Ruling.{Ruling}
+use Rattle.rulings.specs.declared.Ruling.{Ruling}
 use Rattle.engine.specs.Apply.{toldOf}
-use Rattle.engine.specs.Ruling.{seatOf, kept, ruled}
+use Rattle.rulings.specs.Ruling.{seatOf, kept, ruled}
 use Rattle.lent.specs.declared.Turn.{Turn}
 use Rattle.lent.specs.Row.{stateOf}
 

@@ -2,11 +2,11 @@
 use super::Turn;
 use engine::Answer;
 use engine::Applied;
-use engine::Ruling;
-use engine::judging::seat;
 use engine::telling::told;
 use events::Event;
 use records::Record;
+use rulings::Ruling;
+use rulings::judging::seat;
 use soundness::sound;
 use states::Best;
 use states::State;
@@ -16,7 +16,7 @@ ghost use mathlib.Core.Bool.{cond, false};
 ghost use Rattle.soundness.specs.Sound.{soundHolds};
 ghost use Rattle.states.specs.Choice.{none};
 ghost use Rattle.engine.specs.Apply.{toldOf};
-ghost use Rattle.engine.specs.Ruling.{seatOf};
+ghost use Rattle.rulings.specs.Ruling.{seatOf};
 ghost use Rattle.lent.specs.Row.{admitted};
 ghost use Rattle.lent.specs.Turns.{unsound, refusedTurn, acceptedTurn, placedBy};
 

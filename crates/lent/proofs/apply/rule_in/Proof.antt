@@ -1,7 +1,7 @@
 -- `rule_in` meets its contract: a walk of its MIR, by hand. The row is passed on to `is_sound_in` at its own lifetime; where it is sound it has a record at the event's seat, which is copied and ruled on.
 use mathlib.Core.Path.{_≡_, refl, sym, ap, _∙_}
 use Prim.Native.Nat.{ℕ, _+_, _*_, _-_, _<_, _^_}
-use mathlib.Core.Bool.{Bool, not}
+use mathlib.Core.Bool.{Bool}
 use mathlib.Core.List.{List, [], _∷_}
 use lib.Dec.{T}
 use lib.ListN.{length, getD}
@@ -17,7 +17,7 @@ use prog.Wp.{Heap, Env, Calls, Loops, WpFn, Tables}
 use ghost.Atoms.{Atoms, sem}
 use contract.Monad.{Fun, fact}
 use contract.Running.{givenOf, tables, tablesOf}
-use types.Kit.{Given, Item, ‵, raw, runs, atRet, Sq, _⊛_, ⋆, some, later, _$_, _∵_, !, qed, by, move, keep, drop, use1, use2, split, join, pick, rewrite, fsplit, fjoin, suffices, frame, await, done}
+use types.Kit.{Given, ‵, raw, runs, atRet, Sq, _⊛_, ⋆, some, later, _$_, _∵_, !, qed, by, move, keep, drop, use1, use2, split, join, pick, rewrite, fsplit, fjoin, suffices, frame, await, done}
 use types.Part.{whole, sub, look-in}
 use types.Run.{look, look-raw, init, store, forget, stop, hop, fld, from, load, lit, of-opd, bin, and-then, no-more, land, land-last, assigns, first, branches, returns, enter, alloc1, alloc0, params1, pass1, pass0, free1, free0, exec}
 use sound.WpLaws.{FmC, fmOf, WpFn-mono}
@@ -27,7 +27,7 @@ use denote.Memory.{mem, pointee}
 use denote.Plain.{uint-vals, uint-tells, uint-makes, uint-lawful, bool-tells, bool-lawful}
 use denote.Builtin.{u64, usize, bool}
 use denote.Ref.{RefT}
-use denote.Index.{row, place-is, elem-out, elem-back, looks-slice, shuts-slice}
+use denote.Index.{place-is, elem-out, elem-back, looks-slice, shuts-slice}
 use denote.Signature.{plain}
 use denote.Slice.{sliceTy, sliceVal, ShrSlice, Room, slice-vals, shr-slice-tells, shr-slice-lawful, shr-slice-copy}
 use denote.Steps.{only, owned, peeks, heard, nothing}
@@ -44,19 +44,20 @@ use Rattle.events.specs.declared.Event.{Event}
 use Rattle.records.specs.declared.Record.{Record}
 use Rattle.records.specs.Opening.{noRecord}
 use Rattle.states.specs.Sound.{stateHolds}
-use Rattle.engine.specs.declared.Ruling.{Ruling}
-use Rattle.engine.specs.Ruling.{seatOf, ruled}
+use Rattle.rulings.specs.declared.Ruling.{Ruling}
+use Rattle.rulings.specs.Ruling.{ruled}
 use Rattle.lent.specs.Row.{stateOf}
 use Rattle.lent.specs.Turns.{unsound, seatIn, ruledRow}
 use Rattle.events.proofs.Event as E
 use Rattle.events.proofs.Event.Laws as E′
 use Rattle.records.proofs.Record as R
 use Rattle.records.proofs.Record.Laws as R′
-use Rattle.engine.proofs.Ruling as Q
-use Rattle.engine.proofs.Ruling.Laws as Q′
+use Rattle.rulings.proofs.Ruling as Q
+use Rattle.rulings.proofs.Ruling.Laws as Q′
 use Rattle.lent.proofs.Called.{record-val, record-vals, event-val, event-vals, SeatOf, Rule, UnsoundRuling, to-seat-of, to-rule, to-unsound-ruling, goes-seat-of, goes-rule, goes-unsound-ruling, seat-of-gives, rule-gives, unsound-ruling-gives}
 use Rattle.lent.proofs.Plain.{calls-plain, calls-plain-last}
-use Rattle.lent.proofs.Turns.{seat-below, sound-here, ruled-sound, ruled-unsound}
+use Rattle.rulings.proofs.Prompt.{seat-below}
+use Rattle.lent.proofs.Turns.{sound-here, ruled-sound, ruled-unsound}
 use Rattle.lent.proofs.While.{scaled}
 use Rattle.lent.proofs.sound.is_sound_in as is-sound-in
 use Rattle.lent.proofs.sound.is_sound_in.Symbol as is-sound-in-def
@@ -68,9 +69,9 @@ use Rattle.lent.proofs.steps.seat_of.Met as seat-of-thm
 use Rattle.lent.proofs.steps.unsound_ruling.Symbol as unsound-ruling-def
 use Rattle.lent.proofs.steps.unsound_ruling.Symbol.{name as #lent·steps·unsound-ruling}
 use Rattle.lent.proofs.steps.unsound_ruling.Met as unsound-ruling-thm
-use Rattle.engine.proofs.judging.rule.Symbol as rule-def
-use Rattle.engine.proofs.judging.rule.Symbol.{name as #engine·judging·rule}
-use Rattle.engine.proofs.judging.rule.Met as rule-thm
+use Rattle.rulings.proofs.judging.rule.Symbol as rule-def
+use Rattle.rulings.proofs.judging.rule.Symbol.{name as #rulings·judging·rule}
+use Rattle.rulings.proofs.judging.rule.Met as rule-thm
 use Rattle.lent.proofs.apply.rule_in.Key.{name as #lent·apply·rule-in}
 use Rattle.lent.proofs.apply.rule_in as rule-in
 use Rattle.lent.proofs.apply.rule_in.Statement as stated
@@ -103,7 +104,7 @@ module _ {M : Type 1} (𝓤 : URA M) (H : Heap 𝓤) (A : Atoms 𝓤) (at-mem : 
   record Known : Type 2 where
     pub is-sound-in : Triple 𝓤 (C #lent·sound·is-sound-in) (IsSoundIn 𝓤 H A at-mem run)
     pub seat-of : Triple 𝓤 (C #lent·steps·seat-of) (SeatOf 𝓤 H A at-mem run)
-    pub rule : Triple 𝓤 (C #engine·judging·rule) (Rule 𝓤 H A at-mem run)
+    pub rule : Triple 𝓤 (C #rulings·judging·rule) (Rule 𝓤 H A at-mem run)
     pub unsound-ruling : Triple 𝓤 (C #lent·steps·unsound-ruling) (UnsoundRuling 𝓤 H A at-mem run)
 
 module _ {M : Type 1} (𝓤 : URA M) (H : Heap 𝓤) (A : Atoms 𝓤) (W : Given 𝓤 H A) (at-mem : Memory → SProp 𝓤) (run : Routine → Fun 𝓤) (κ : Lft) (q : Share) (b o : ℕ) (γ : GName) (ys : List Record) (c : ℕ) (e : Event)
@@ -259,7 +260,7 @@ rule-in-spec 𝓤 H 𝓜 𝓖 𝓡 =
     (record {
       is-sound-in = cited 𝓤 H (IsSoundIn 𝓤 H (𝓖 .A) (𝓜 .mem) (𝓡 .run)) 𝓜 𝓡 code.env #lent·sound·is-sound-in is-sound-in-def.routine code.calls-lent·sound·is-sound-in (is-sound-in-thm.met 𝓤 H 𝓜 𝓖 𝓡);
       seat-of = cited 𝓤 H (SeatOf 𝓤 H (𝓖 .A) (𝓜 .mem) (𝓡 .run)) 𝓜 𝓡 code.env #lent·steps·seat-of seat-of-def.routine code.calls-lent·steps·seat-of (seat-of-thm.met 𝓤 H 𝓜 𝓖 𝓡);
-      rule = cited 𝓤 H (Rule 𝓤 H (𝓖 .A) (𝓜 .mem) (𝓡 .run)) 𝓜 𝓡 code.env #engine·judging·rule rule-def.routine code.calls-engine·judging·rule (rule-thm.met 𝓤 H 𝓜 𝓖 𝓡);
+      rule = cited 𝓤 H (Rule 𝓤 H (𝓖 .A) (𝓜 .mem) (𝓡 .run)) 𝓜 𝓡 code.env #rulings·judging·rule rule-def.routine code.calls-rulings·judging·rule (rule-thm.met 𝓤 H 𝓜 𝓖 𝓡);
       unsound-ruling = cited 𝓤 H (UnsoundRuling 𝓤 H (𝓖 .A) (𝓜 .mem) (𝓡 .run)) 𝓜 𝓡 code.env #lent·steps·unsound-ruling unsound-ruling-def.routine code.calls-lent·steps·unsound-ruling (unsound-ruling-thm.met 𝓤 H 𝓜 𝓖 𝓡);
     }
     ))

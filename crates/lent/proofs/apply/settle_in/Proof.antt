@@ -49,10 +49,9 @@ use Rattle.events.specs.declared.Event.{Event}
 use Rattle.records.specs.declared.Record.{Record}
 use Rattle.records.specs.Opening.{expired, noRecord}
 use Rattle.states.specs.declared.Best.{Best}
-use Rattle.states.specs.Choice.{none, better, bestTo}
+use Rattle.states.specs.Choice.{none, better}
 use Rattle.engine.specs.declared.Answer.{Answer}
 use Rattle.engine.specs.Apply.{toldOf}
-use Rattle.engine.specs.Ruling.{seatOf}
 use Rattle.engine.proofs.Settled.{Settling, settling-none}
 use Rattle.lent.specs.Turns.{seatIn, storedRow, settledRow, rowAnswer}
 use Rattle.events.proofs.Event as E
@@ -65,7 +64,8 @@ use Rattle.engine.proofs.Answer as S
 use Rattle.engine.proofs.Answer.Laws as S′
 use Rattle.lent.proofs.Called.{record-val, record-vals, event-val, event-vals, best-val, Expire, NoBest, BetterOf, SeatOf, ToldOf, to-expire, to-no-best, to-better-of, to-seat-of, to-told-of, goes-expire, goes-no-best, goes-better-of, goes-seat-of, goes-told-of, expire-gives, no-best-gives, better-of-gives, seat-of-gives, told-of-gives}
 use Rattle.lent.proofs.Plain.{calls-plain}
-use Rattle.lent.proofs.Turns.{seat-below, settles-on, settled-at, settled-tells}
+use Rattle.rulings.proofs.Prompt.{seat-below}
+use Rattle.lent.proofs.Turns.{settles-on, settled-at, settled-tells}
 use Rattle.lent.proofs.While.{tests, scaled}
 use Rattle.records.proofs.opening.expire.Symbol as expire-def
 use Rattle.records.proofs.opening.expire.Symbol.{name as #records·opening·expire}

@@ -25,7 +25,7 @@ use sound.WpLaws.{FmC, fmOf, WpFn-mono}
 use denote.RattleType.{owns}
 use denote.Laws.{Is, shows}
 use denote.Memory.{shares, pointee}
-use denote.Array.{Array, arrayVal, array-vals, array-tells, array-typed}
+use denote.Array.{Array, array-vals, array-tells, array-typed}
 use denote.Ref.{RefT}
 use denote.Index.{row}
 use denote.Signature.{plain}

@@ -1,5 +1,4 @@
 -- `steps::admits` meets its contract: each test is the rule's own.
-use mathlib.Core.Path.{refl}
 use borrow.Author.Tests.{le-leb, lt-leb}
 use Rattle.lent.proofs.steps.admits.Statement.{statement}
 use Rattle.lent.proofs.steps.admits.Tie as tie
