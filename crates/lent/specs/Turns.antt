@@ -1,0 +1,49 @@
+-- The parts of an event in place. `apply_in`'s contract is the engine's `applied` alone; what these come to is shown in `Turns`.
+use Prim.Native.Nat.{ℕ}
+use mathlib.Core.Bool.{cond}
+use mathlib.Core.List.{List}
+use lib.ListN.{length, getD, set}
+use Rattle.laws.specs.Stores.{filled}
+use Rattle.events.specs.declared.Event.{Event}
+use Rattle.records.specs.declared.Record.{Record}
+use Rattle.records.specs.Opening.{expired, noRecord}
+use Rattle.states.specs.Sound.{stateHolds}
+use Rattle.states.specs.Choice.{bestTo}
+use Rattle.engine.specs.declared.Answer.{Answer}
+use Rattle.engine.specs.declared.Answer.the-variants.{Refused}
+use Rattle.engine.specs.declared.Applied.{Applied}
+use Rattle.rulings.specs.declared.Ruling.{Ruling}
+use Rattle.engine.specs.Apply.{toldOf}
+use Rattle.rulings.specs.Ruling.{seatOf, kept, ruled}
+use Rattle.lent.specs.declared.Turn.{Turn}
+use Rattle.lent.specs.Row.{stateOf}
+
+abbrev pub unsound : Ruling
+unsound = kept 15 noRecord
+
+-- 15 before all, then the ruling on the record at the event's seat
+abbrev pub seatIn : List Record → Event → ℕ
+seatIn l e = seatOf (e .task) (length l)
+
+abbrev pub ruledRow : List Record → ℕ → Event → Ruling
+ruledRow l clock e = cond (stateHolds (stateOf l clock)) (ruled clock (length l) (getD l (seatIn l e) noRecord) e) unsound
+
+-- the record stored at the event's seat, then each late record closed
+abbrev pub storedRow : List Record → Event → Record → List Record
+storedRow l e x = set l (seatIn l e) x
+
+abbrev pub settledRow : List Record → Event → Record → List Record
+settledRow l e x = filled (λ i. expired (getD (storedRow l e x) i noRecord) (e .time)) (length l) (storedRow l e x)
+
+abbrev pub rowAnswer : List Record → Answer
+rowAnswer l = toldOf (bestTo l (length l)) (getD l (bestTo l (length l) .at) noRecord .class)
+
+abbrev pub acceptedTurn : Answer → Event → Turn
+acceptedTurn a e = record { answer = a; clock = e .time }
+
+abbrev pub refusedTurn : Ruling → ℕ → Turn
+refusedTurn r clock = record { answer = Refused (r .refusal); clock = clock }
+
+-- a turn over the row, as the state that it leaves
+abbrev pub placedBy : Turn → ℕ → List Record → Applied
+placedBy u count l = record { answer = u .answer; state = record { count = count; clock = u .clock; records = l } }

@@ -1,0 +1,27 @@
+// The choice is made over a lent row of task records, of any length.
+use super::steps::no_best;
+use records::Record;
+use states::Best;
+use states::choice::better_of;
+ghost use mathlib.Core.Path.{_≡_};
+ghost use lib.ListN.{length};
+ghost use Rattle.states.specs.Choice.{bestTo};
+
+pub fn choose_in(row: &[Record]) -> Best
+    ensures { λ r. ⌜ r ≡ bestTo (now (row .entry)) (length (now (row .entry))) ⌝ }
+{
+    let mut best = no_best();
+    let mut i: usize = 0;
+    while i < row.len() {
+        best = better_of(best, row[i], i);
+        i += 1;
+    }
+    best
+}
+
+// The same over an array by value, which is lent to it: whoever calls it needs no walk.
+pub fn choose_of(records: [Record; 16]) -> Best
+    ensures { λ r. ⌜ r ≡ bestTo records 16 ⌝ }
+{
+    choose_in(&records)
+}
