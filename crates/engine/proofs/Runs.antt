@@ -2,17 +2,17 @@
 -- sound, so that the work may be done without another test.
 use Prim.Native.Nat.{ℕ, _+_, _≤_}
 use mathlib.Core.Path.{_≡_, refl, sym, _∙_}
-use mathlib.Core.List.{List, [], _∷_}
+use mathlib.Core.List.{List, []}
 use native.Mathlib.Omega.{arith}
 use lib.ListN.{length, drop, length-drop}
 use lib.Seq.{drop-drop}
 use Rattle.laws.proofs.Tests.{tells-true}
 use Rattle.events.specs.declared.Event.{Event}
 use Rattle.events.specs.declared.Reading.the-variants as R
-use Rattle.events.specs.Record.{eventOf, readRecord}
-use Rattle.events.specs.Log.{readable, eventsIn, eventsOf}
-use Rattle.events.proofs.Records.{Goes, goes-of, front, Stops}
-use mathlib.Core.Logic.{_⊎_, inl, inr}
+use Rattle.events.specs.Record.{readRecord}
+use Rattle.events.specs.Log.{eventsOf}
+use Rattle.events.proofs.Records.{goes-of}
+use Rattle.events.proofs.Logs.{events-more, events-none}
 use Rattle.states.specs.declared.State.{State}
 use Rattle.states.specs.Sound.{StateSound}
 use Rattle.states.proofs.Sounding.{state-tells}
@@ -26,21 +26,6 @@ use Rattle.engine.proofs.Kept.{applied-sound}
 pub sound-acts : (s : State) (e : Event) → StateSound s → acted s e ≡ applied s e
 unfolding applied
 sound-acts s e p = rw (tells-true (state-tells s) p)
-
-events-more : (s : List ℕ) (e : Event) → readRecord s ≡ R.Event e → eventsOf s ≡ e ∷ eventsOf (drop 20 s)
-unfolding eventsIn
-events-more s e q =
-    let g = goes-of s e q in
-    let f : eventOf s ≡ e = cc (g .reads) in
-    rw (g .counts, f)
-
-events-none : (s : List ℕ) → ((e : Event) → readRecord s ≡ R.Event e → ⊥) → eventsOf s ≡ []
-unfolding eventsIn
-events-none s k = go (front s)
-  where
-    go : Goes s ⊎ Stops s → eventsIn (readable s) s ≡ []
-    go (inl g) = absurd (k (eventOf s) (g .reads))
-    go (inr f) = rw (f .none)
 
 -- nothing follows in an empty log
 pub ran-nothing : (a : Applied) → ranOver a (eventsOf []) ≡ a

@@ -98,3 +98,19 @@ log-events es w = rw (log-count es w) (go es w)
     go : (es : List Event) → Writable es → eventsIn (length es) (logOf es) ≡ es
     go [] w = refl
     go (e ∷ es) w = rw (fields-back e (logOf es) (w .0 .1), drop-at (recordOf e) (logOf es) 20 (record-length e), go es (w .1))
+
+-- the events of a log, by what its front reads as
+pub events-more : (s : List ℕ) (e : Event) → readRecord s ≡ R.Event e → eventsOf s ≡ e ∷ eventsOf (drop 20 s)
+unfolding eventsIn
+events-more s e q =
+    let g = goes-of s e q in
+    let f : eventOf s ≡ e = cc (g .reads) in
+    rw (g .counts, f)
+
+pub events-none : (s : List ℕ) → ((e : Event) → readRecord s ≡ R.Event e → ⊥) → eventsOf s ≡ []
+unfolding eventsIn
+events-none s k = go (front s)
+  where
+    go : Goes s ⊎ Stops s → eventsIn (readable s) s ≡ []
+    go (inl g) = absurd (k (eventOf s) (g .reads))
+    go (inr f) = rw (f .none)

@@ -42,7 +42,8 @@ use Rattle.engine.proofs.Frame.{count-stays}
 use Rattle.engine.proofs.Kept.{applied-sound}
 use Rattle.task_lines.specs.Lines.{boundText, taskLine, lastLine}
 use Rattle.event_lines.specs.Lines.{refusedLine, answerText, eventLine}
-use Rattle.listings.specs.Listing.{taskLines, eventLines, stateAfter, stopBy, stopText, lastLines, tableListing, listedBy, listed, tableThere, tableBytes, eventBytes, listingOf}
+use Rattle.log_lines.specs.Lines.{eventLines, stateAfter, stopBy, stopText}
+use Rattle.listings.specs.Listing.{taskLines, lastLines, tableListing, listedBy, listed, tableThere, tableBytes, eventBytes, listingOf}
 use Rattle.listings.proofs.Input.{read-good}
 use Rattle.listings.proofs.Small.{refusal-small, w-digits, h-digits, task-ruled, bound-small, Small, applied-small, stop-small, met-small, missed-small, broken-small, open-small, window-small, fresh-state-sound}
 

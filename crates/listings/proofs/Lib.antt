@@ -1,5 +1,4 @@
 -- What is shown of the listing beside the functions' contracts.
-pub mod Events
 pub mod Fits
 pub mod Input
 pub mod Small

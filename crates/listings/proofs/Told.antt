@@ -32,7 +32,8 @@ use Rattle.wording.specs.Words.{boundWord, noBoundWord}
 use Rattle.listings.specs.declared.Listing.{Listing}
 use Rattle.listings.specs.declared.Listing.the-variants as Listing
 use Rattle.listings.specs.Lent.{room, listAnswer, listedInto}
-use Rattle.listings.specs.Listing.{stateAfter, stopText, tableThere, tableBytes, eventBytes, tableListing, listed, listingOf}
+use Rattle.log_lines.specs.Lines.{stateAfter, stopText}
+use Rattle.listings.specs.Listing.{tableThere, tableBytes, eventBytes, tableListing, listed, listingOf}
 use Rattle.listings.proofs.Fits.{listing-fits}
 
 -- ---- bound or `-`

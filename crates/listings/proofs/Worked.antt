@@ -22,7 +22,8 @@ use Rattle.soundness.specs.Sound.{soundHolds}
 use Rattle.states.specs.Sound.{eachHolds, stateHolds}
 use Rattle.states.specs.Choice.{bestTo}
 use Rattle.engine.specs.Apply.{ticked, releasedAt, completedAt, byKind, timed, acted, applied}
-use Rattle.listings.specs.Listing.{taskLines, eventLines, stateAfter, stopText, lastLines, tableListing, listed, listingOf}
+use Rattle.log_lines.specs.Lines.{eventLines, stateAfter, stopText}
+use Rattle.listings.specs.Listing.{taskLines, lastLines, tableListing, listed, listingOf}
 
 -- one byte n: 2 tasks
 abbrev count : List ℕ

@@ -12,41 +12,18 @@ use Rattle.tables.specs.Rules.{noTask}
 use Rattle.table_bytes.specs.declared.TableRead.{TableRead}
 use Rattle.table_bytes.specs.Reading.{readTable}
 use Rattle.bounds.specs.Asked.{oneAnswer}
-use Rattle.events.specs.declared.Event.{Event}
-use Rattle.events.specs.declared.Reading.{Reading}
 use Rattle.events.specs.declared.Reading.the-variants as R
-use Rattle.events.specs.Record.{readRecord}
-use Rattle.events.specs.Log.{readable, restOf, eventsOf}
+use Rattle.events.specs.Log.{eventsOf}
 use Rattle.states.specs.declared.State.{State}
 use Rattle.states.specs.State.{recordAt, freshState}
-use Rattle.engine.specs.Apply.{applied}
 use Rattle.task_lines.specs.Lines.{taskLine, lastLine}
-use Rattle.event_lines.specs.Lines.{tooLong, refusedLine, eventLine, stopLine}
+use Rattle.event_lines.specs.Lines.{tooLong, refusedLine}
+use Rattle.log_lines.specs.Lines.{eventLines, stateAfter, stopText}
 
 -- one line per task: the first n of a table
 unfoldable pub taskLines : Table → ℕ → List ℕ
 taskLines t zero = []
 taskLines t (suc n) = taskLines t n ++ taskLine n (getD (t .tasks) n noTask) (oneAnswer t n)
-
--- one line per event in order from number i, refused ones included
-unfoldable pub eventLines : ℕ → State → List Event → List ℕ
-eventLines i s [] = []
-eventLines i s (e ∷ es) = eventLine i (applied s e .answer) ++ eventLines (i + 1) (applied s e .state) es
-
--- the state after the events
-unfoldable pub stateAfter : State → List Event → State
-stateAfter s [] = s
-stateAfter s (e ∷ es) = stateAfter (applied s e .state) es
-
--- `stop N at O` if a record does not read
-abbrev pub stopBy : Reading → ℕ → List ℕ
-stopBy (R.Event e) offset = []
-stopBy R.End offset = []
-stopBy (R.Refused n) offset = stopLine n offset
-
--- O counts from the first event byte
-unfoldable pub stopText : List ℕ → List ℕ
-stopText log = stopBy (readRecord (restOf log)) (20 * readable log)
 
 -- then one line per task: the first n of a state
 unfoldable pub lastLines : State → ℕ → List ℕ

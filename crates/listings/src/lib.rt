@@ -1,9 +1,7 @@
 // The whole listing: the tasks, the events one by one, where the reading stopped, and the tasks again.
 use bounds::of_table::bound;
-use engine::apply::apply;
-use events::Reading;
-use events::read;
-use events::rest;
+use log_lines::each_event;
+use log_lines::stop;
 use states::State;
 use states::fresh::start;
 use tables::Answer;
@@ -11,13 +9,12 @@ use tables::Table;
 ghost use mathlib.Core.Path.{_≡_};
 ghost use Prim.Native.Nat.{_≤_};
 ghost use lib.ListN.{length};
-ghost use Rattle.events.specs.Log.{eventsOf};
 ghost use Rattle.tables.specs.declared.Answer.the-variants.{Accepted};
 ghost use Rattle.tables.specs.Judging.{judged};
 ghost use Rattle.table_bytes.specs.Reading.{readTable};
 ghost use Rattle.texts.specs.Sheet.{sheet, puts};
 ghost use Rattle.listings.specs.Lent.{listAnswer, listedInto};
-ghost use Rattle.listings.specs.Listing.{taskLines, eventLines, stateAfter, stopText, lastLines, tableListing, listed, eventsFrom, listingOf};
+ghost use Rattle.listings.specs.Listing.{taskLines, lastLines, tableListing, listed, eventsFrom, listingOf};
 
 // No listing is longer.
 pub const ROOM: usize = 131072;
@@ -26,12 +23,6 @@ pub const ROOM: usize = 131072;
 pub enum Listing {
     Text(usize),
     Refused(u8),
-}
-
-// Where the lines of the events end, and the state after them.
-pub struct Ended {
-    pub place: usize,
-    pub state: State,
 }
 
 // One line per task, with its bound.
@@ -48,41 +39,6 @@ fn tasks(out: &mut [u8], at: usize, table: Table) -> usize
         i += 1;
     }
     place
-}
-
-// One line per event, and the state after them.
-fn each_event(out: &mut [u8], at: usize, first: State, log: &[u8]) -> Ended
-    ensures { λ r. ⌜ (sheet (now (out .exit)) (r .place) ≡ puts (sheet (now (out .entry)) at) (eventLines 1 first (eventsOf (now (log .entry))))) × (r .state ≡ stateAfter first (eventsOf (now (log .entry)))) ⌝ }
-{
-    let mut place = at;
-    let mut state = first;
-    let mut i: usize = 0;
-    let mut from: usize = 0;
-    loop {
-        let Reading::Event(event) = read(&log[from..]) else {
-            return Ended {
-                place: place,
-                state: state,
-            };
-        };
-        let done = apply(state, event);
-        state = done.state;
-        i += 1;
-        let said = done.answer;
-        place = event_lines::event(out, place, i, said);
-        from += 20;
-    }
-}
-
-// The line that says where the reading stopped, if a record does not read.
-fn stop(out: &mut [u8], at: usize, log: &[u8]) -> usize
-    ensures { λ r. ⌜ sheet (now (out .exit)) r ≡ puts (sheet (now (out .entry)) at) (stopText (now (log .entry))) ⌝ }
-{
-    let left = rest(log);
-    let Reading::Refused(number) = read(left) else {
-        return at;
-    };
-    event_lines::stop(out, at, number, log.len() - left.len())
 }
 
 // One line per task, as the events have left it.

@@ -7,9 +7,9 @@ use borrow.Author.Needs.{needs}
 use lib.ListN.{length}
 use Rattle.laws.proofs.Parts.{tail-is}
 use Rattle.events.specs.Record.{readRecord}
-use Rattle.listings.proofs.Events.{Going, going-none, going-more, going-stop}
-use Rattle.listings.proofs.each_event.Statement.{statement}
-use Rattle.listings.proofs.each_event.Tie as tie
+use Rattle.log_lines.proofs.Events.{Going, going-none, going-more, going-stop}
+use Rattle.log_lines.proofs.each_event.Statement.{statement}
+use Rattle.log_lines.proofs.each_event.Tie as tie
 
 abbrev Inv-loop : tie.InvT-loop
 Inv-loop out₀ at log place₀ state₀ i₀ from₀ out place state i from = Going out₀ at state₀ log out place state i from

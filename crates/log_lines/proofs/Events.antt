@@ -1,8 +1,7 @@
 -- The lines of a log, record by record: what is left of the log, listed from the state so far, completes what the whole log lists.
 use Prim.Native.Nat.{ℕ, _+_, _*_, _≤_}
 use mathlib.Core.Path.{_≡_, refl, ap, _∙_}
-use mathlib.Core.List.{List, [], _∷_}
-use mathlib.Core.Logic.{_⊎_, inl, inr}
+use mathlib.Core.List.{List, []}
 use native.Mathlib.Omega.{arith}
 use lib.ListN.{length, drop, length-drop}
 use lib.Seq.{drop-drop}
@@ -11,28 +10,14 @@ use Rattle.texts.proofs.Sheets.{puts-on}
 use Rattle.events.specs.declared.Event.{Event}
 use Rattle.events.specs.declared.Reading.{Reading}
 use Rattle.events.specs.declared.Reading.the-variants as R
-use Rattle.events.specs.Record.{eventOf, readRecord}
-use Rattle.events.specs.Log.{readable, eventsIn, eventsOf}
-use Rattle.events.proofs.Records.{Goes, goes-of, front, Stops}
+use Rattle.events.specs.Record.{readRecord}
+use Rattle.events.specs.Log.{eventsOf}
+use Rattle.events.proofs.Records.{goes-of}
+use Rattle.events.proofs.Logs.{events-more, events-none}
 use Rattle.states.specs.declared.State.{State}
 use Rattle.engine.specs.Apply.{applied}
 use Rattle.event_lines.specs.Lines.{eventLine}
-use Rattle.listings.specs.Listing.{eventLines, stateAfter, stopBy}
-
-events-more : (s : List ℕ) (e : Event) → readRecord s ≡ R.Event e → eventsOf s ≡ e ∷ eventsOf (drop 20 s)
-unfolding eventsIn
-events-more s e q =
-    let g = goes-of s e q in
-    let f : eventOf s ≡ e = cc (g .reads) in
-    rw (g .counts, f)
-
-events-none : (s : List ℕ) → ((e : Event) → readRecord s ≡ R.Event e → ⊥) → eventsOf s ≡ []
-unfolding eventsIn
-events-none s k = go (front s)
-  where
-    go : Goes s ⊎ Stops s → eventsIn (readable s) s ≡ []
-    go (inl g) = absurd (k (eventOf s) (g .reads))
-    go (inr f) = rw (f .none)
+use Rattle.log_lines.specs.Lines.{eventLines, stateAfter, stopBy}
 
 -- at a place of the log, i events later, with the lines and the state so far
 pub record Going (o : List ℕ) (at : ℕ) (s : State) (log : List ℕ) (out : List ℕ) (place : ℕ) (q : State) (i from : ℕ) : Type 0 where

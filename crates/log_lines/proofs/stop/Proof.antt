@@ -8,11 +8,11 @@ use Rattle.texts.specs.Sheet.{puts}
 use Rattle.events.specs.Record.{readRecord}
 use Rattle.events.specs.Log.{readable, restOf}
 use Rattle.events.proofs.Rests.{rest-offset}
-use Rattle.listings.specs.Listing.{stopText}
-use Rattle.listings.proofs.Events.{no-stop}
+use Rattle.log_lines.specs.Lines.{stopText}
+use Rattle.log_lines.proofs.Events.{no-stop}
 use borrow.Author.Needs.{needs}
-use Rattle.listings.proofs.stop.Statement.{statement}
-use Rattle.listings.proofs.stop.Tie as tie
+use Rattle.log_lines.proofs.stop.Statement.{statement}
+use Rattle.log_lines.proofs.stop.Tie as tie
 
 rest-requires : tie.Need-rest-requires
 rest-requires c κs = search needs

@@ -1,0 +1,2 @@
+-- What is shown of the lines of a log beside the functions' contracts.
+pub mod Events
