@@ -22,10 +22,12 @@ use Rattle.states.specs.Choice.{better, bestTo}
 use Rattle.states.proofs.Least.{best-within}
 use Rattle.states.proofs.Sounding.{state-tells}
 use Rattle.engine.specs.declared.Answer.{Answer}
+use Rattle.engine.specs.declared.Answer.the-variants.{Refused}
 use Rattle.engine.specs.declared.Applied.{Applied}
 use Rattle.rulings.specs.declared.Ruling.{Ruling}
 use Rattle.engine.specs.Apply.{toldOf, answerOf, moved, refused, acted, applied}
 use Rattle.rulings.specs.Ruling.{ruled}
+use Rattle.engine.proofs.Frame.{refused-stays}
 use Rattle.engine.proofs.Rulings.{Accepts, refused-by, accepted-by, decided}
 use Rattle.engine.proofs.Settled.{settledTo, Settling, settling-more, stored-first}
 use Rattle.lent.specs.declared.Turn.{Turn}
@@ -155,3 +157,9 @@ module _ (l : List Record) (c : ℕ) (e : Event) where
         let f : r .refusal ≡ 0 → ⊥ = eqb-false (r .refusal) 0 (failed (eqb (r .refusal) 0) t) in
         let same : applied (stateOf l c) e ≡ refused (stateOf l c) (r .refusal) = turn-refused l c e (λ z. f (number ∙ z)) ∙ ap (refused (stateOf l c)) (sym number) in
         (ap (λ (x : Turn). x .answer) w ∙ sym (ap (λ (x : Applied). x .answer) same), (ap (λ (x : Turn). x .clock) w ∙ sym (ap (λ (x : Applied). x .state .clock) same), sym (ap (λ (x : Applied). x .state .records) same)))
+
+  -- so a refused event leaves the row and the clock as lent
+  pub refused-as-lent : (m : ℕ) → (u : Turn) (zs : List Record) → Said u zs → u .answer ≡ Refused m → (u .clock ≡ c) × (zs ≡ l)
+  refused-as-lent m u zs said z =
+      let same : applied (stateOf l c) e .state ≡ stateOf l c = refused-stays (stateOf l c) e m (sym (said .0) ∙ z) in
+      (said .1 .0 ∙ ap (λ (x : State). x .clock) same, said .1 .1 ∙ ap (λ (x : State). x .records) same)

@@ -39,7 +39,8 @@ fn rule_in(row: &[Record], clock: u64, event: Event) -> Ruling
 // The event is accepted: its task's record is stored, each late record is closed, and the choice is told.
 fn settle_in(row: &mut [Record], event: Event, after: Record) -> Answer
     requires { ⌜ 0 < length (now row) ⌝ }
-    ensures { λ r. ⌜ (r ≡ rowAnswer (now (row .exit))) × (now (row .exit) ≡ settledRow (now (row .entry)) event after) ⌝ }
+    ensures { λ r. ⌜ (r ≡ rowAnswer (now (row .exit)))
+        × (now (row .exit) ≡ settledRow (now (row .entry)) event after) ⌝ }
 {
     let at = seat_of(event, row.len());
     row[at] = after;
@@ -55,7 +56,9 @@ fn settle_in(row: &mut [Record], event: Event, after: Record) -> Answer
 }
 
 pub fn apply_in(row: &mut [Record], clock: u64, event: Event) -> Turn
-    ensures { λ r. ⌜ (r .answer ≡ applied (stateOf (now (row .entry)) clock) event .answer) × ((r .clock ≡ applied (stateOf (now (row .entry)) clock) event .state .clock) × (now (row .exit) ≡ applied (stateOf (now (row .entry)) clock) event .state .records)) ⌝ }
+    ensures { λ r. ⌜ (r .answer ≡ applied (stateOf (now (row .entry)) clock) event .answer)
+        × ((r .clock ≡ applied (stateOf (now (row .entry)) clock) event .state .clock)
+        × (now (row .exit) ≡ applied (stateOf (now (row .entry)) clock) event .state .records)) ⌝ }
 {
     let ruling = rule_in(&*row, clock, event);
     if ruling.refusal == 0 {

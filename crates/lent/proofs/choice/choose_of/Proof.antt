@@ -124,12 +124,12 @@ module _ {M : Type 1} (𝓤 : URA M) (H : Heap 𝓤) (A : Atoms 𝓤) (W : Given
         assigns ! (addr ! (from ! (stop !))) (from ! (stop !)) (init ! (L 3) refl (tt, tt)) $
         assigns ! (agg ! (and-then ! (load ! (from ! (stop !)) (look ! (L 3) refl)) (and-then ! (lit ! tt) (no-more !)))) (from ! (stop !)) (init ! (L 4) refl (tt, (tt, (record { fits = lit< tt }, tt)))) $
         rewrite ! (L 4) (λ (k : ℕ). ‵ (fat fullShare (sliceTy shrTy) l₄ 0 (sliceVal (l₂, 0) k))) (sym len) refl $
-        -- the local is taken apart, and lent to `choose`
+        -- the local is taken apart, and lent to `choose_in`
         move ! (L 2 ∷ []) $ use1 W (‵ (row R.the-row fullShare ys l₂ 0)) (array-row 𝓤 H A W R.the-row size ys l₂ 0 tt (LL.makes R.the-type R′.the-plain 𝓤 H A) av was) $
         lft-new ! tt (λ ν. move ! (1 ∷ []) $
         use1 W (later (some (λ (δ : GName). ‵ (ShrSlice (named 0) (ν ∷ []) R.the-row .own (x l₂ δ) (sv l₂ ∷ [])) ⊛ ‵ (flent (ν ∷ []) (arr-parts (shares R.the-row) (length ys) .part fullShare ys l₂ 0))))) (shares-row 𝓤 H A W R.the-row (named 0) (ν ∷ []) ys l₂ 0 room) $ await ! tt $ pick ! (λ δ. split ! $
         move ! (2 ∷ 0 ∷ []) $ use2 W (raw (ChooseIn 𝓤 H A at-mem run .pre (to-choose-in l₂ ν δ))) (goes-choose-in l₂ ν δ) $
-        -- [what `choose` asks; the lender's part; _4, 2; _3, 4; that _2 dies, 6; _1, 7; room for _0, 9; …]
+        -- [what `choose_in` asks; the lender's part; _4, 2; _3, 4; that _2 dies, 6; _1, 7; room for _0, 9; …]
         calls-at ! fm (ChooseIn 𝓤 H A at-mem run) known (to-choose-in l₂ ν δ) (and-then ! (load ! (from ! (stop !)) (look ! 2 refl)) (no-more !)) (λ v.
         use1 W (later (some (λ (r : Best). ((‵ (flft (ν ∷ []) fullShare) ⊛ ‵ ftrue) ⊛ ‵ (B.the-row .own r (v ∷ []))) ⊛ raw (ensured 𝓤 H A choose-in.ended (choose-in.clauses 𝓤 H A at-mem run) (ν ∷ [], tt) (x l₂ δ, tt) tt r)))) (id⊢ 𝓤 _) $ await ! tt $ pick ! (λ r.
         split ! $ move ! (1 ∷ []) $ use1 W (raw (fact 𝓤 (r ≡ bestTo ys (length ys)))) (choose-in-said 𝓤 H A at-mem run (ν ∷ []) (x l₂ δ) r) $ heard ! (r ≡ bestTo ys (length ys)) (λ e. split ! $ move ! (1 ∷ []) $

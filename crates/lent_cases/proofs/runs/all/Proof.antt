@@ -1,14 +1,14 @@
--- `runs::same_events` is safe and ends: n stays within the events.
+-- `runs::all` is safe and ends: n stays within the events.
 use Prim.Native.Nat.{_-_, _≤_}
 use borrow.Author.Needs.{needs}
-use Rattle.lent_cases.proofs.runs.same_events.Statement.{statement}
-use Rattle.lent_cases.proofs.runs.same_events.Tie as tie
+use Rattle.lent_cases.proofs.runs.all.Statement.{statement}
+use Rattle.lent_cases.proofs.runs.all.Tie as tie
 
 abbrev Inv-loop : tie.InvT-loop
-Inv-loop seed walk₀ n₀ walk n = n ≤ 2000
+Inv-loop walk₀ n₀ walk n = n ≤ 100000
 
 abbrev μ-loop : tie.MeasureT-loop
-μ-loop seed walk₀ n₀ walk n = 2000 - n
+μ-loop walk₀ n₀ walk n = 100000 - n
 
 table-requires : tie.Need-table-requires Inv-loop μ-loop
 table-requires c κs = search needs
@@ -18,6 +18,9 @@ start-requires c κs = search needs
 
 loop-holds : tie.Need-loop-holds Inv-loop μ-loop
 loop-holds c = search needs
+
+begun-requires : tie.Need-begun-requires Inv-loop μ-loop
+begun-requires c κs = search needs
 
 step-requires : tie.Need-step-requires Inv-loop μ-loop
 step-requires c κs = search needs
@@ -37,8 +40,8 @@ returns c = search needs
 returns-2 : tie.Need-returns-2 Inv-loop μ-loop
 returns-2 c = search needs
 
-pub same-events-spec : {M : Type 1} → statement M
-same-events-spec =
+pub all-spec : {M : Type 1} → statement M
+all-spec =
     tie.close
     (tie.spec
     Inv-loop
@@ -46,6 +49,7 @@ same-events-spec =
     table-requires
     start-requires
     loop-holds
+    begun-requires
     step-requires
     add-n
     loop-less
