@@ -1,0 +1,2 @@
+-- What is shown beside the functions' contracts.
+pub mod Turns

@@ -1,0 +1,11 @@
+#!/bin/sh
+# The engine in place against the engine by value, both through exported functions, on 100,000 made-up events or as many as are asked for.
+set -eu
+cd "$(dirname "$0")/.."
+. tests/machine.sh
+compiler
+rt staticlib rig
+rt staticlib lent_rig
+mkdir -p target/tests
+"$cc" -std=c99 -Wall -Wextra -Werror -O2 -I include -static -o target/tests/in_place tests/in_place.c target/staticlib/librig.a target/staticlib/liblent_rig.a
+$run target/tests/in_place "$@"
