@@ -11,8 +11,6 @@ use std::env;
 use std::fs;
 use std::io::{Read, Write};
 use std::process::{exit, Command, Stdio};
-use std::sync::atomic::{AtomicUsize, Ordering};
-use std::sync::Mutex;
 use std::thread;
 
 const LIMIT: u64 = 1_000_000_000_000;
@@ -1019,6 +1017,25 @@ fn codes(command: &str, cases: &[Case]) -> Vec<String> {
     lines
 }
 
+// What the listing says of each case: every input and every text has four bytes of size before it.
+fn texts(command: &str, cases: &[Case]) -> Vec<Vec<u8>> {
+    let mut frames = Vec::new();
+    for case in cases {
+        let input = case.input();
+        frames.extend_from_slice(&(input.len() as u32).to_le_bytes());
+        frames.extend_from_slice(&input);
+    }
+    let all = wrote(command, &frames);
+    let (mut at, mut out) = (0, Vec::new());
+    while all.len() >= at + 4 && out.len() < cases.len() {
+        let end = std::cmp::min(all.len(), at + 4 + number(&all[at..at + 4]) as usize);
+        out.push(all[at + 4..end].to_vec());
+        at = end;
+    }
+    out.resize(cases.len(), b"no answer".to_vec());
+    out
+}
+
 // ---- differences
 
 // Whether each case is answered otherwise than the peer does.
@@ -1115,30 +1132,18 @@ fn rig_differs<'a>(command: &'a str) -> impl Fn(&[Case]) -> Vec<bool> + 'a {
 fn listing_differs<'a>(command: &'a str) -> impl Fn(&[Case]) -> Vec<bool> + 'a {
     move |cases: &[Case]| {
         let mut quiet = Seen::new(false);
-        cases.iter().map(|case| wrote(command, &case.input()) != listing(&case.input(), &mut quiet).as_bytes()).collect()
+        texts(command, cases).iter().zip(cases).map(|(said, case)| *said != listing(&case.input(), &mut quiet).as_bytes()).collect()
     }
 }
 
-// Every case through the listing, as many at a time as the machine has processors; the first that differs.
+// Every case through the listing, in as many parts as the machine has processors; the first that differs.
 fn listing_first(command: &str, cases: &[Case]) -> Option<usize> {
-    let next = AtomicUsize::new(0);
-    let found: Mutex<Option<usize>> = Mutex::new(None);
-    let differs = listing_differs(command);
-    let one = |case: &Case| differs(std::slice::from_ref(case))[0];
+    let part = cases.len().div_ceil(thread::available_parallelism().map_or(2, |n| n.get()));
     thread::scope(|all| {
-        for _ in 0..thread::available_parallelism().map_or(2, |n| n.get()) {
-            all.spawn(|| loop {
-                let i = next.fetch_add(1, Ordering::Relaxed);
-                if i >= cases.len() || found.lock().unwrap().is_some() {
-                    return;
-                }
-                if one(&cases[i]) {
-                    found.lock().unwrap().get_or_insert(i);
-                }
-            });
-        }
-    });
-    found.into_inner().unwrap()
+        let parts: Vec<_> = cases.chunks(part).map(|some| all.spawn(|| listing_differs(command)(some).iter().position(|d| *d))).collect();
+        let firsts: Vec<_> = parts.into_iter().map(|one| one.join().unwrap_or_else(|_| fail("a part of the cases was not run"))).collect();
+        firsts.into_iter().enumerate().find_map(|(i, first)| first.map(|at| i * part + at))
+    })
 }
 
 fn compare(count: usize, seed: u64, rig_command: &str, listing_command: Option<&str>) -> bool {
@@ -1163,7 +1168,7 @@ fn compare(count: usize, seed: u64, rig_command: &str, listing_command: Option<&
         if let Some(command) = listing_command {
             if let Some(i) = listing_first(command, &cases) {
                 println!("seed {seed}, case {}", done + i);
-                let text = |case: &Case| String::from_utf8_lossy(&wrote(command, &case.input())).into_owned();
+                let text = |case: &Case| String::from_utf8_lossy(&texts(command, std::slice::from_ref(case))[0]).into_owned();
                 let answers = |case: &Case| (text(case), listing(&case.input(), &mut Seen::new(false)));
                 report("the listing", &cases[i], &listing_differs(command), &answers);
                 return false;

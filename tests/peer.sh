@@ -9,13 +9,10 @@ compiler
 rustc --edition 2021 -O -o target/tests/peer tests/peer.rs
 target/tests/peer vectors tests/cases
 target/tests/peer listing examples/line.bin | cmp - examples/line.out
+# the program as it is, a process for each stored input
 for input in tests/cases/listing/*.in examples/line.bin; do
     $start target/bin/listing <"$input" | cmp - "${input%.*}.out"
 done
-listing=target/bin/listing
-# emulated, the same code starts in half the time where no loader has to run
-if [ -n "$run" ]; then
-    listing=target/tests/listing
-    "$cc" -static -o "$listing" target/obj/listing.o
-fi
-target/tests/peer cases "${1:-20000}" "${2:-1}" "$run target/tests/rig" "$run $listing"
+# the same program, one process for many inputs
+"$cc" -std=c99 -Wall -Wextra -Werror -O2 -static -Wl,--wrap=main -o target/tests/listings tests/listings.c target/obj/listing.o
+target/tests/peer cases "${1:-20000}" "${2:-1}" "$run target/tests/rig" "$run target/tests/listings"

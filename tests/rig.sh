@@ -13,10 +13,9 @@ mkdir -p target/tests
 build -static -o target/tests/rig
 $run target/tests/rig tests/cases/rig
 # the README's example: the line's log ends with no job open, and without its last event with the tension's
-"$cc" -std=c99 -Wall -Wextra -Werror -I include -static -o target/tests/choice examples/choice.c target/staticlib/librig.a
-[ "$($run target/tests/choice examples/line.bin)" = "no job is open" ]
 head -c -20 examples/line.bin >target/tests/line.bin
-[ "$($run target/tests/choice target/tests/line.bin)" = "task 2 runs" ]
+[ "$(examples/choice.sh)" = "no job is open" ]
+[ "$(examples/choice.sh target/tests/line.bin)" = "task 2 runs" ]
 if [ -z "$run" ]; then
     needs valgrind valgrind
     # with the C library as a file of its own, since valgrind knows its functions by it

@@ -1,4 +1,4 @@
--- `lines::answer_text` meets its contract, case by case.
+-- `answer_text` meets its contract, case by case.
 use borrow.Author.Needs.{needs}
 use Rattle.event_lines.proofs.answer_text.Statement.{statement}
 use Rattle.event_lines.proofs.answer_text.Tie as tie

@@ -1,4 +1,4 @@
--- `lines::event` meets its contract: the event's number, its answer and the end of the line, one behind another.
+-- `event` meets its contract: the event's number, its answer and the end of the line, one behind another.
 use borrow.Author.Needs.{needs}
 use Rattle.texts.specs.Sheet.{sheet}
 use Rattle.texts.proofs.Sheets.{and-then}

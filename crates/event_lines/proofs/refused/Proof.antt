@@ -1,4 +1,4 @@
--- `lines::refused` meets its contract: the number, the position and the end of the line, one behind another.
+-- `refused` meets its contract: the number, the position and the end of the line, one behind another.
 use borrow.Author.Needs.{needs}
 use Rattle.texts.specs.Sheet.{sheet}
 use Rattle.texts.proofs.Sheets.{and-then}

@@ -1,4 +1,4 @@
--- `lines::run` meets its contract: the position, and then the class.
+-- `run` meets its contract: the position, and then the class.
 use borrow.Author.Needs.{needs}
 use Rattle.texts.specs.Sheet.{sheet}
 use Rattle.texts.proofs.Sheets.{and-then}

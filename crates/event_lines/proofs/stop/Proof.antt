@@ -1,4 +1,4 @@
--- `lines::stop` meets its contract: the number, the offset and the end of the line, one behind another.
+-- `stop` meets its contract: the number, the offset and the end of the line, one behind another.
 use borrow.Author.Needs.{needs}
 use Rattle.texts.specs.Sheet.{sheet}
 use Rattle.texts.proofs.Sheets.{and-then}

@@ -1,4 +1,4 @@
--- `listings::each_event` meets its contract: before each turn the rest of the log, listed from what is held, gives what the whole log lists.
+-- `each_event` meets its contract: before each turn the rest of the log, listed from what is held, gives what the whole log lists.
 use Prim.Native.Nat.{_+_, _-_}
 use mathlib.Core.Path.{sym, ap, _∙_}
 use mathlib.Core.Logic.{⊎-elim}

@@ -1,4 +1,4 @@
--- `listings::stop` meets its contract: what reading says of the rest, and how far into the log it begins.
+-- `stop` meets its contract: what reading says of the rest, and how far into the log it begins.
 use Prim.Native.Nat.{_*_}
 use mathlib.Core.Path.{sym, ap, _∙_}
 use mathlib.Core.Logic.{⊎-elim}

@@ -1,4 +1,4 @@
--- `lines::bound_text` meets its contract, case by case.
+-- `bound_text` meets its contract, case by case.
 use borrow.Author.Needs.{needs}
 use Rattle.task_lines.proofs.bound_text.Statement.{statement}
 use Rattle.task_lines.proofs.bound_text.Tie as tie

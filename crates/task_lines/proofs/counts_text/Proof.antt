@@ -1,4 +1,4 @@
--- `lines::counts_text` meets its contract: three counts, one behind another.
+-- `counts_text` meets its contract: three counts, one behind another.
 use borrow.Author.Needs.{needs}
 use Rattle.texts.specs.Sheet.{sheet}
 use Rattle.texts.proofs.Sheets.{and-then}

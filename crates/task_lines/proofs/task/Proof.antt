@@ -1,4 +1,4 @@
--- `lines::task` meets its contract: the parts of the line, one behind another.
+-- `task` meets its contract: the parts of the line, one behind another.
 use borrow.Author.Needs.{needs}
 use Rattle.texts.specs.Sheet.{sheet}
 use Rattle.texts.proofs.Sheets.{and-then}

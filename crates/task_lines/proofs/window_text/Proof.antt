@@ -1,4 +1,4 @@
--- `lines::window_text` meets its contract: the window number and `broken`, one behind the other.
+-- `window_text` meets its contract: the window number and `broken`, one behind the other.
 use borrow.Author.Needs.{needs}
 use Rattle.texts.specs.Sheet.{sheet}
 use Rattle.texts.proofs.Sheets.{and-then}
