@@ -15,7 +15,7 @@ $run target/tests/rig tests/cases/rig
 # the README's example: the line's log ends with no job open, and without its last event with the tension's
 head -c -20 examples/line.bin >target/tests/line.bin
 [ "$(examples/choice.sh)" = "no job is open" ]
-[ "$(examples/choice.sh target/tests/line.bin)" = "task 2 runs" ]
+[ "$($run target/tests/choice target/tests/line.bin)" = "task 2 runs" ]
 if [ -z "$run" ]; then
     needs valgrind valgrind
     # with the C library as a file of its own, since valgrind knows its functions by it
