@@ -7,7 +7,7 @@ use lib.ListN.{replicate}
 use Rattle.laws.specs.Stores.{filled}
 use Rattle.tables.specs.declared.Table.{Table}
 use Rattle.tables.specs.Rules.{noTask, taskFault}
-use Rattle.tables.proofs.Worked.{Row, rowOf, pairs, rows}
+use Rattle.thresholds.proofs.Worked.{Row, rowOf, pairs, rows}
 use Rattle.events.specs.declared.Event.{Event}
 use Rattle.events.specs.Event.{faultOf, zeroes}
 use Rattle.records.specs.Closing.{closed}

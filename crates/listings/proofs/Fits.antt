@@ -15,7 +15,7 @@ use Rattle.tables.specs.declared.Table.{Table}
 use Rattle.tables.specs.declared.Task.{Task}
 use Rattle.tables.specs.Judging.{judged}
 use Rattle.tables.specs.Rules.{Misses}
-use Rattle.tables.specs.Thresholds.{wOf, hOf}
+use Rattle.thresholds.specs.Thresholds.{wOf, hOf}
 use Rattle.tables.proofs.Exactly.{judged-accepted}
 use Rattle.tables.proofs.Ruling.{fault-none}
 use Rattle.table_bytes.specs.Reading.{readTable}

@@ -17,10 +17,10 @@ use Rattle.tables.specs.declared.Table.{Table}
 use Rattle.tables.specs.declared.Task.{Task}
 use Rattle.tables.specs.Judging.{firstFault, judged}
 use Rattle.tables.specs.Rules.{Misses, taskFault}
-use Rattle.tables.specs.Thresholds.{wOf, hOf, topOf}
+use Rattle.thresholds.specs.Thresholds.{wOf, hOf, topOf}
 use Rattle.tables.proofs.Exactly.{judged-accepted}
 use Rattle.tables.proofs.Faults.{found-then}
-use Rattle.tables.proofs.Paper.{w-small, h-some}
+use Rattle.thresholds.proofs.Paper.{w-small, h-some}
 use Rattle.tables.proofs.Ruling.{fault-none}
 use Rattle.table_bytes.specs.Reading.{recordAt, recordFaultAt, bytesHold, tableOf, readAnswer, readTable}
 use Rattle.table_bytes.proofs.Exactly.{whole-tells, length-at, record-among}

@@ -7,7 +7,7 @@ use lib.Dec.{eqb, leb}
 use lib.IntN.{ℤ}
 use Rattle.laws.proofs.Tests.{true-not-false}
 use Rattle.levels.specs.Level.{classOf, raised, lowest}
-use Rattle.tables.specs.Thresholds.{wOf, hOf, topOf}
+use Rattle.thresholds.specs.Thresholds.{wOf, hOf, topOf}
 use Rattle.records.specs.declared.Record.{Record}
 use Rattle.records.specs.Window.{countOf, pushed, brokenBy}
 use Rattle.records.specs.Closing.{setBack, closed}

@@ -3,7 +3,7 @@ use Prim.Native.Nat.{_+_}
 use mathlib.Core.Bool.{Bool, true, false, cond}
 use lib.Dec.{eqb, leb}
 use Rattle.levels.specs.Level.{classOf, raised, lowest}
-use Rattle.tables.specs.Thresholds.{wOf, hOf, topOf}
+use Rattle.thresholds.specs.Thresholds.{wOf, hOf, topOf}
 use Rattle.records.specs.declared.Record.{Record}
 use Rattle.records.specs.Window.{countOf, pushed, brokenBy}
 

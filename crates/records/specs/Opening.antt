@@ -6,7 +6,7 @@ use lib.IntN.{pos}
 use Rattle.levels.specs.Level.{classOf, lowest}
 use Rattle.tables.specs.declared.Task.{Task}
 use Rattle.tables.specs.Rules.{noTask}
-use Rattle.tables.specs.Thresholds.{hOf}
+use Rattle.thresholds.specs.Thresholds.{hOf}
 use Rattle.records.specs.declared.Record.{Record}
 use Rattle.records.specs.Window.{countOf}
 use Rattle.records.specs.Closing.{closed}

@@ -5,7 +5,7 @@ use super::counts::next;
 use levels::class;
 use levels::low;
 use tables::Task;
-use tables::thresholds::h;
+use thresholds::h;
 ghost use mathlib.Core.Path.{_≡_};
 ghost use Rattle.records.specs.Opening.{fresh, late, expired, opened};
 

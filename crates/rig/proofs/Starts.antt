@@ -9,7 +9,7 @@ use Rattle.tables.specs.declared.Answer.the-variants.{Accepted, Refused}
 use Rattle.tables.specs.declared.Table.{Table}
 use Rattle.tables.specs.Judging.{judged}
 use Rattle.table_bytes.specs.Reading.{tableOf, beside, readAnswer, readTable}
-use Rattle.table_bytes.proofs.Trips.{read-good}
+use Rattle.table_bytes.proofs.Given.{read-good}
 use Rattle.states.specs.State.{freshState, started}
 use Rattle.states.specs.Sound.{StateSound}
 use Rattle.states.specs.Choice.{chosen}

@@ -14,8 +14,8 @@ use Rattle.levels.specs.Level.{classOf, raised, lowest, levelHolds}
 use Rattle.levels.proofs.Needs.{need, class-need, need-lowest, level-holds, level-told, raised-most, raised-class}
 use Rattle.tables.specs.declared.Task.{Task}
 use Rattle.tables.specs.Rules.{Times, Misses, taskFault}
-use Rattle.tables.specs.Thresholds.{wOf, hOf, topOf}
-use Rattle.tables.proofs.Paper.{h-some}
+use Rattle.thresholds.specs.Thresholds.{wOf, hOf, topOf}
+use Rattle.thresholds.proofs.Paper.{h-some}
 use Rattle.tables.proofs.Ruling.{fault-none}
 use Rattle.records.specs.declared.Record.{Record}
 use Rattle.records.specs.Closing.{setBack, closed}

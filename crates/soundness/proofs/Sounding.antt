@@ -9,7 +9,7 @@ use Rattle.laws.specs.Tests.{allOf, whenever}
 use Rattle.laws.proofs.Tests.{Tells, tells, each-holds, both-hold, whenever-holds, whenever-if}
 use Rattle.levels.specs.Level.{classOf, levelHolds}
 use Rattle.tables.specs.Rules.{taskFault}
-use Rattle.tables.specs.Thresholds.{wOf, hOf, topOf}
+use Rattle.thresholds.specs.Thresholds.{wOf, hOf, topOf}
 use Rattle.records.specs.declared.Record.{Record}
 use Rattle.soundness.specs.Sound.{Sound, openOf, runHolds, rangesHold, openHolds, releasesHold, totalsHold, countsHold, soundHolds}
 

@@ -7,7 +7,7 @@ use lib.Dec.{eqb, leb, ltb}
 use Rattle.laws.specs.Tests.{allOf, whenever}
 use Rattle.levels.specs.Level.{classOf, levelHolds}
 use Rattle.tables.specs.Rules.{taskFault}
-use Rattle.tables.specs.Thresholds.{wOf, hOf, topOf}
+use Rattle.thresholds.specs.Thresholds.{wOf, hOf, topOf}
 use Rattle.records.specs.declared.Record.{Record}
 
 -- how many jobs are open: one or none

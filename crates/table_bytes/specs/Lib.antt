@@ -1,4 +1,3 @@
 -- What the crate's contracts cite.
 pub mod Answers
 pub mod Reading
-pub mod Writing

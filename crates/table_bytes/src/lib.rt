@@ -1,6 +1,5 @@
-// The bytes of a task table: 16 a task, read and written.
+// The bytes of a task table, 16 a task, and what they read as.
 pub mod reading;
-pub mod writing;
 
 use tables::Answer;
 use tables::Table;

@@ -31,11 +31,11 @@ fn refusal(answer: Answer) {
 
 fn thresholds_of(task: Task) {
     text(b" ");
-    number(tables::thresholds::w(task.m, task.k) as u64);
+    number(thresholds::w(task.m, task.k) as u64);
     text(b"/");
-    number(tables::thresholds::h(task.m, task.k) as u64);
+    number(thresholds::h(task.m, task.k) as u64);
     text(b"/");
-    number(tables::thresholds::top(task.m, task.k) as u64);
+    number(thresholds::top(task.m, task.k) as u64);
 }
 
 fn thresholds(table: Table) {
@@ -74,7 +74,7 @@ fn write_into(table: Table, room: usize, bytes: &[u8]) {
     if 272 < room {
         return;
     }
-    let answer = table_bytes::writing::write(table, &mut row[0..room]);
+    let answer = table_writing::write(table, &mut row[0..room]);
     text(b", ");
     refusal(answer);
     if stands(&row, bytes) {

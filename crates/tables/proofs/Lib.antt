@@ -2,6 +2,4 @@
 pub mod Exactly
 pub mod Faults
 pub mod Order
-pub mod Paper
 pub mod Ruling
-pub mod Worked

@@ -1,6 +1,5 @@
 -- What the crate's contracts cite, in document 01's order.
 pub mod Rules
-pub mod Thresholds
 pub mod Answers
 pub mod Judging
 pub mod Order

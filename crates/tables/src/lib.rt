@@ -1,6 +1,5 @@
-// The task table of document 01: its rules and its thresholds.
+// The task table of document 01 and its rules.
 pub mod rules;
-pub mod thresholds;
 
 // C, D and T in ticks; at most m misses in any K jobs in a row.
 pub struct Task {

@@ -2,7 +2,7 @@
 use Prim.Native.Nat.{ℕ}
 use mathlib.Core.List.{List, _++_}
 use Rattle.tables.specs.declared.Task.{Task}
-use Rattle.tables.specs.Thresholds.{wOf, hOf}
+use Rattle.thresholds.specs.Thresholds.{wOf, hOf}
 use Rattle.bounds.specs.declared.Bound.{Bound}
 use Rattle.bounds.specs.declared.Bound.the-variants as Bound
 use Rattle.records.specs.declared.Record.{Record}

@@ -13,7 +13,7 @@ use lib.ListN.{length, take, drop, length-take}
 use Rattle.levels.specs.Level.{classOf, lowest}
 use Rattle.tables.specs.declared.Task.{Task}
 use Rattle.tables.specs.Rules.{Misses}
-use Rattle.tables.proofs.Paper.{w-one, h-covers, w-within, w-some}
+use Rattle.thresholds.proofs.Paper.{w-one, h-covers, w-within, w-some}
 use Rattle.records.specs.declared.Record.{Record}
 use Rattle.windows.specs.Outcomes.{mets, lastMisses, firstOver}
 use Rattle.windows.specs.Rungs.{wFor, hFor, topFor, Rung, lowRung, metRung, missedRung}

@@ -11,7 +11,7 @@ use Rattle.laws.proofs.Tests.{true-not-false}
 use Rattle.levels.specs.Level.{classOf, lowest}
 use Rattle.tables.specs.declared.Task.{Task}
 use Rattle.tables.specs.Rules.{Misses}
-use Rattle.tables.proofs.Paper.{h-covers}
+use Rattle.thresholds.proofs.Paper.{h-covers}
 use Rattle.records.specs.declared.Record.{Record}
 use Rattle.records.specs.Closing.{setBack, closed}
 use Rattle.records.specs.Opening.{opened}

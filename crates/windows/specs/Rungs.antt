@@ -7,7 +7,7 @@ use lib.Dec.{eqb, leb}
 use lib.IntN.{ℤ}
 use Rattle.levels.specs.Level.{classOf, raised, lowest, levelHolds}
 use Rattle.tables.specs.declared.Task.{Task}
-use Rattle.tables.specs.Thresholds.{wOf, hOf, topOf}
+use Rattle.thresholds.specs.Thresholds.{wOf, hOf, topOf}
 
 -- w, h and top of a task
 abbrev pub wFor : Task → ℕ

@@ -5,7 +5,7 @@ use mir.Val.{SFits}
 use mir.ValLaws.{toZ-ofZ}
 use borrow.Author.Needs.{needs}
 use Rattle.levels.specs.Level.{classOf, levelHolds}
-use Rattle.tables.specs.Thresholds.{hOf, topOf}
+use Rattle.thresholds.specs.Thresholds.{hOf, topOf}
 use Rattle.soundness.specs.Sound.{runHolds}
 use Rattle.soundness.proofs.ranges_hold.Statement.{statement}
 use Rattle.soundness.proofs.ranges_hold.Tie as tie

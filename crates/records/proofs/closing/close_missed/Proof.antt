@@ -6,7 +6,7 @@ use mir.Val.{Fits, toZ, ofZ}
 use mir.ValLaws.{toZ-ofZ}
 use borrow.Author.Needs.{needs}
 use Rattle.levels.specs.Level.{lowest}
-use Rattle.tables.proofs.Paper.{w-small}
+use Rattle.thresholds.proofs.Paper.{w-small}
 use Rattle.records.proofs.Steps.{back-is, stay-is, stays-below}
 use Rattle.records.proofs.closing.close_missed.Statement.{statement}
 use Rattle.records.proofs.closing.close_missed.Tie as tie

@@ -9,7 +9,7 @@ use mir.Val.{SFits}
 use mir.ValLaws.{toZ-ofZ}
 use borrow.Author.Needs.{needs}
 use Rattle.levels.specs.Level.{classOf}
-use Rattle.tables.specs.Thresholds.{wOf}
+use Rattle.thresholds.specs.Thresholds.{wOf}
 use Rattle.records.proofs.closing.sets_back.Statement.{statement}
 use Rattle.records.proofs.closing.sets_back.Tie as tie
 

@@ -1,0 +1,155 @@
+-- A table that is written and read back is the same table, and bytes that read, written again, are the same bytes:
+-- record by record, from the round trips of a number.
+use Prim.Native.Nat.{ℕ, zero, suc, _+_, _*_, _/_, _≤_, _<_}
+use mathlib.Core.Path.{_≡_, refl, sym, ap, _∙_}
+use mathlib.Core.List.{List, [], _∷_, _++_, append-assoc, append-nil}
+use native.Mathlib.Decide.{ℕ-discrete, decLt}
+use native.Mathlib.Nat.{not-suc-le-zero, le-refl}
+use native.Mathlib.Omega.{arith}
+use borrow.Author.Tests.{le-leb}
+use lib.ListN.{length, getD, take, drop, replicate, getD-replicate, length-drop}
+use lib.Seq.{take-at, drop-at, take-all, take-add, length-take-le, ext-getD}
+use Rattle.laws.specs.Bytes.{AreBytes}
+use Rattle.laws.specs.Stores.{filled}
+use Rattle.laws.proofs.Bytes.{drop-bytes, take-bytes}
+use Rattle.laws.proofs.Parts.{two-at}
+use Rattle.laws.proofs.Stores.{length-filled, filled-below, filled-past}
+use Rattle.words.specs.Words.{number, bytes}
+use Rattle.words.proofs.Trips.{number-of-bytes, bytes-of-number}
+use Rattle.tables.specs.declared.Answer.the-variants.{Accepted}
+use Rattle.tables.specs.declared.Task.{Task}
+use Rattle.tables.specs.declared.Table.{Table}
+use Rattle.tables.specs.Rules.{Times, taskFault, noTask}
+use Rattle.tables.specs.Judging.{judged}
+use Rattle.table_bytes.specs.Reading.{Marked, taskOf, recordFault, recordAt, taskAt, readAnswer, readTable}
+use Rattle.tables.specs.Tidy.{Tidy}
+use Rattle.table_writing.specs.Writing.{recordOf, recordsOf, writeAnswer, wroteTable}
+use Rattle.tables.proofs.Exactly.{judged-accepted}
+use Rattle.table_bytes.proofs.Exactly.{read-accepted, length-at}
+use Rattle.table_writing.proofs.Records.{length-record, length-records}
+use Rattle.tables.proofs.Ruling.{fault-none}
+use Rattle.table_bytes.proofs.Rows.{marked}
+use Rattle.table_bytes.proofs.Given.{count, given, whole, task-there, fault-there, given-good, given-is}
+use Rattle.table_writing.proofs.Written.{write-accepted, write-leaves}
+
+-- ---- one record, written and read
+
+pub task-of-record : (t : Task) → Times t → taskOf (recordOf t) ≡ t
+unfolding bytes
+task-of-record t r =
+    let c = number-of-bytes 4 (t .c) (omega (arith, r .within, r .spaced, r .limit)) in
+    let d = number-of-bytes 4 (t .d) (omega (arith, r .spaced, r .limit)) in
+    let e = number-of-bytes 4 (t .t) (omega (arith, r .limit)) in
+    rw (c, d, e)
+
+pub record-fault : (t : Task) → taskFault t ≡ 0 → recordFault (recordOf t) ≡ 0
+unfolding bytes
+record-fault t e =
+    marked (recordOf t) (length-record t) (record { first = refl; second = refl })
+    ∙ ap taskFault (task-of-record t (fault-none t .0 e .0))
+    ∙ e
+
+-- ---- one record, read and written
+
+same-five : {a a′ b b′ c c′ d d′ e e′ : List ℕ} → a ≡ a′ → b ≡ b′ → c ≡ c′ → d ≡ d′ → e ≡ e′ → a ++ b ++ c ++ d ++ e ≡ a′ ++ b′ ++ c′ ++ d′ ++ e′
+same-five p q r s t = rw (p, q, r, s, t)
+
+-- a list of 16 in the record's parts
+parts : (r : List ℕ) → length r ≡ 16 → take 2 r ++ take 4 (drop 2 r) ++ take 4 (drop 6 r) ++ take 4 (drop 10 r) ++ take 2 (drop 14 r) ≡ r
+parts r l = rw (← take-add 2 4 r, ← take-add 6 4 r, ← take-add 10 4 r, ← take-add 14 2 r) (take-all 16 r (omega arith))
+
+pub record-of-task : (r : List ℕ) → length r ≡ 16 → AreBytes r → Marked r → recordOf (taskOf r) ≡ r
+record-of-task r l b m = same-five mark (field 2 (omega arith)) (field 6 (omega arith)) (field 10 (omega arith)) (sym (two-at r 14 0 (omega arith))) ∙ parts r l
+  where
+    field : (at : ℕ) → at + 4 ≤ 16 → bytes 4 (number (take 4 (drop at r))) ≡ take 4 (drop at r)
+    field at h =
+        let n : length (take 4 (drop at r)) ≡ 4 = length-take-le 4 (drop at r) (rw length-drop (omega arith)) in
+        rw n at (bytes-of-number (take 4 (drop at r)) (take-bytes 4 (drop at r) (drop-bytes at r b)))
+
+    mark : 0x54 ∷ 0x4B ∷ [] ≡ take 2 r
+    mark = sym (two-at r 0 0 (omega arith) ∙ rw (m .first, m .second))
+
+-- ---- all records
+
+-- the record at a position behind others, with anything past them
+pub record-in : (ts : List Task) (n : ℕ) (s : List ℕ) (i : ℕ) → i < n → recordAt (recordsOf ts n ++ s) i ≡ recordOf (getD ts i noTask)
+unfolding recordsOf
+record-in ts zero s i h = absurd (not-suc-le-zero h)
+record-in ts (suc n) s i h = go (ℕ-discrete i n) (record-in ts n (recordOf (getD ts n noTask) ++ s) i)
+  where
+    go : Dec (i ≡ n) → (i < n → recordAt (recordsOf ts n ++ (recordOf (getD ts n noTask) ++ s)) i ≡ recordOf (getD ts i noTask))
+        → recordAt (recordsOf ts n ++ recordOf (getD ts n noTask) ++ s) i ≡ recordOf (getD ts i noTask)
+    go (yes q) k =
+        let r = recordOf (getD ts n noTask) in
+        rw (q, append-assoc (recordsOf ts n) r s, drop-at (recordsOf ts n) (r ++ s) (16 * n) (length-records ts n)) (take-at r s 16 (length-record (getD ts n noTask)))
+    go (no q) k = rw (append-assoc (recordsOf ts n) (recordOf (getD ts n noTask)) s) (k (omega arith))
+
+-- a good table's records read, and give its tasks
+module _ (t : Table) (tidy : Tidy t) (good : judged t ≡ Accepted) where
+  abbrev all : List ℕ
+  all = recordsOf (t .tasks) (t .count)
+
+  each : (i : ℕ) → i < t .count → recordAt all i ≡ recordOf (getD (t .tasks) i noTask)
+  each i h = rw (append-nil) at (record-in (t .tasks) (t .count) [] i h)
+
+  sixteenth : length all / 16 ≡ t .count
+  sixteenth = let l = length-records (t .tasks) (t .count) in omega arith
+
+  all-read : readAnswer all ≡ Accepted
+  all-read =
+      let a = judged-accepted t .0 good in
+      read-accepted all .1 (
+        record { sixteens = omega (arith, length-records (t .tasks) (t .count)); counted = rw sixteenth (a .0) },
+        λ i h. let j : i < t .count = rw sixteenth at h in rw (each i j) (record-fault (getD (t .tasks) i noTask) (a .1 i j)),
+      )
+
+  all-tasks : filled (taskAt all) (t .count) (replicate 16 noTask) ≡ t .tasks
+  all-tasks =
+      let l : length (filled (taskAt all) (t .count) (replicate 16 noTask)) ≡ 16 = length-filled (taskAt all) (replicate 16 noTask) noTask (t .count) in
+      ext-getD noTask _ (t .tasks) (l ∙ sym (tidy .places)) (λ i h. go i (omega arith) (decLt i (t .count)))
+    where
+      go : (i : ℕ) → i < 16 → Dec (i < t .count) → getD (filled (taskAt all) (t .count) (replicate 16 noTask)) i noTask ≡ getD (t .tasks) i noTask
+      go i h (yes q) =
+          let a = judged-accepted t .0 good in
+          filled-below (taskAt all) (replicate 16 noTask) noTask (t .count) i (a .0 .most) q
+          ∙ ap taskOf (each i q)
+          ∙ task-of-record (getD (t .tasks) i noTask) (fault-none (getD (t .tasks) i noTask) .0 (a .1 i q) .0)
+      go i h (no q) =
+          filled-past (taskAt all) (replicate 16 noTask) noTask (t .count) i (omega arith)
+          ∙ getD-replicate 16 i noTask noTask h
+          ∙ sym (tidy .zeros i (omega arith))
+
+  pub records-read : readTable all ≡ record { answer = Accepted; table = t }
+  unfolding readTable
+  records-read = rw (all-read, sixteenth, all-tasks)
+
+-- ---- the theorems
+
+-- a table that is written and read back is the same table
+pub written-read : (t : Table) (s : List ℕ) → Tidy t → writeAnswer t (length s) ≡ Accepted
+    → readTable (take (16 * t .count) (wroteTable t s)) ≡ record { answer = Accepted; table = t }
+written-read t s tidy e =
+    rw (write-leaves t s e, take-at (recordsOf (t .tasks) (t .count)) (drop (16 * t .count) s) (16 * t .count) (length-records (t .tasks) (t .count)))
+    (records-read t tidy (write-accepted t (length s) .0 e .0))
+
+-- bytes that read are the records of the table they give
+module _ (s : List ℕ) (good : readAnswer s ≡ Accepted) where
+  front : AreBytes s → (n : ℕ) → n ≤ count s → recordsOf (given s .tasks) n ≡ take (16 * n) s
+  unfolding recordsOf
+  front b zero h = refl
+  front b (suc n) h =
+      let e : 16 * suc n ≡ 16 * n + 16 = omega arith in
+      let r = record-of-task (recordAt s n) (length-at s n h) (take-bytes 16 (drop (16 * n) s) (drop-bytes (16 * n) s b)) (fault-there s good n h .0) in
+      rw (front b n (omega arith), task-there s good n h, r, e, take-add (16 * n) 16 s)
+
+  again : AreBytes s → recordsOf (given s .tasks) (count s) ≡ s
+  again b = front b (count s) (le-refl (count s)) ∙ take-all (16 * count s) s (omega (arith, whole s good .sixteens))
+
+  -- bytes that read, written again, are the same bytes
+  pub read-written : AreBytes s → (u : List ℕ) → length s ≤ length u
+      → (writeAnswer (readTable s .table) (length u) ≡ Accepted) × (wroteTable (readTable s .table) u ≡ s ++ drop (length s) u)
+  unfolding writeAnswer
+  read-written b u h =
+      let n : 16 * count s ≡ length s = omega (arith, whole s good .sixteens) in
+      let e : writeAnswer (given s) (length u) ≡ Accepted = rw (given-good s good, le-leb (16 * count s) (length u) (omega arith)) in
+      rw (given-is s good) (e, write-leaves (given s) u e ∙ rw (again b, n))
