@@ -21,7 +21,7 @@ use Rattle.response.specs.declared.Found.{Found}
 use Rattle.response.specs.declared.Found.the-variants as Found
 use Rattle.bounds.specs.declared.Bound.{Bound}
 use Rattle.bounds.specs.declared.Bound.the-variants as Bound
-use Rattle.response.specs.Above.{taskAt}
+use Rattle.demands.specs.Above.{taskAt}
 use Rattle.response.specs.Bound.{IsBound, NoBound, boundOf}
 use Rattle.response.specs.Answers.{foundNumber}
 use Rattle.bounds.specs.Answers.{boundNumber, boundPosition, boundValue}

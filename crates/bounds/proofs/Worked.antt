@@ -12,7 +12,7 @@ use Rattle.tables.specs.Rules.{taskFault, noTask}
 use Rattle.tables.specs.Judging.{firstFault, judged}
 use Rattle.bounds.specs.declared.Bound.{Bound}
 use Rattle.bounds.specs.declared.Bound.the-variants as Bound
-use Rattle.response.specs.Demand.{demand}
+use Rattle.demands.specs.Demand.{demand}
 use Rattle.response.specs.Fits.{firstFit}
 use Rattle.bounds.specs.Asked.{oneAnswer, allAnswer, allCells}
 

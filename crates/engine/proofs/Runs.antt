@@ -1,18 +1,17 @@
 -- A log is applied record by record: what is left of it, applied to the state so far, gives what the whole gives. A sound state stays
 -- sound, so that the work may be done without another test.
-use Prim.Native.Nat.{ℕ, _+_, _≤_}
+use Prim.Native.Nat.{ℕ, _+_}
 use mathlib.Core.Path.{_≡_, refl, sym, _∙_}
 use mathlib.Core.List.{List, []}
 use native.Mathlib.Omega.{arith}
-use lib.ListN.{length, drop, length-drop}
-use lib.Seq.{drop-drop}
+use lib.ListN.{drop}
 use Rattle.laws.proofs.Tests.{tells-true}
 use Rattle.events.specs.declared.Event.{Event}
 use Rattle.events.specs.declared.Reading.the-variants as R
 use Rattle.events.specs.Record.{readRecord}
-use Rattle.events.specs.Log.{eventsOf}
-use Rattle.events.proofs.Records.{goes-of}
-use Rattle.events.proofs.Logs.{events-more, events-none}
+use Rattle.logs.specs.Log.{eventsOf}
+use Rattle.logs.proofs.Logs.{events-more, events-none}
+use Rattle.logs.proofs.Going.{Going, going-none, going-more, going-stop}
 use Rattle.states.specs.declared.State.{State}
 use Rattle.states.specs.Sound.{StateSound}
 use Rattle.states.proofs.Sounding.{state-tells}
@@ -43,28 +42,25 @@ module _ (s : State) (log : List ℕ) (p : StateSound s) where
   ran-first e q = rw (tells-true (state-tells s) p, events-more log e q)
 
 -- at a place of the log, with the event that was read last and the state before it
-pub record Going (s : State) (first : Event) (log : List ℕ) (from : ℕ) (next : State) (event : Event) : Type 0 where
-  pub within : from ≤ length log
+pub record Running (s : State) (first : Event) (log : List ℕ) (from : ℕ) (next : State) (event : Event) : Type 0 where
+  pub going : Going ranOver (applied s first) log (applied next event) from
   pub sound : StateSound next
   pub counted : next .count ≡ s .count
-  pub same : ranOver (applied s first) (eventsOf log) ≡ ranOver (applied next event) (eventsOf (drop from log))
 
 module _ (s : State) (first : Event) (log : List ℕ) where
-  pub going-none : StateSound s → Going s first log 0 s first
-  going-none p = record { within = omega arith; sound = p; counted = refl; same = refl }
+  pub running-none : StateSound s → Running s first log 0 s first
+  running-none p = record { going = going-none ranOver (applied s first) log; sound = p; counted = refl }
 
-  module _ (from : ℕ) (next : State) (event : Event) (g : Going s first log from next event) where
-    pub going-more : (other : Event) → readRecord (drop from log) ≡ R.Event other → Going s first log (from + 20) (applied next event .state) other
+  module _ (from : ℕ) (next : State) (event : Event) (g : Running s first log from next event) where
+    pub running-more : (other : Event) → readRecord (drop from log) ≡ R.Event other → Running s first log (from + 20) (applied next event .state) other
     unfolding ranOver
-    going-more other q =
-        let l : 20 ≤ length (drop from log) = goes-of (drop from log) other q .long in
+    running-more other q =
         record {
-          within = omega (arith, rw (length-drop from log) at l, g .within);
+          going = going-more ranOver (applied s first) log (applied next event) from (g .going) other (applied (applied next event .state) other) q (λ es. refl);
           sound = applied-sound next (g .sound) event;
           counted = count-stays next event ∙ g .counted;
-          same = g .same ∙ rw (events-more (drop from log) other q, drop-drop 20 from log);
         }
 
-    pub going-stop : ((e : Event) → readRecord (drop from log) ≡ R.Event e → ⊥) → applied next event ≡ ranOver (applied s first) (eventsOf log)
+    pub running-stop : ((e : Event) → readRecord (drop from log) ≡ R.Event e → ⊥) → applied next event ≡ ranOver (applied s first) (eventsOf log)
     unfolding ranOver
-    going-stop k = sym (g .same ∙ rw (events-none (drop from log) k))
+    running-stop k = sym (going-stop ranOver (applied s first) log (applied next event) from (g .going) k)

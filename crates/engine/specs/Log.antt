@@ -3,7 +3,7 @@ use mathlib.Core.Bool.{cond}
 use mathlib.Core.List.{List, [], _∷_}
 use Prim.Native.Nat.{ℕ}
 use Rattle.events.specs.declared.Event.{Event}
-use Rattle.events.specs.Log.{eventsOf}
+use Rattle.logs.specs.Log.{eventsOf}
 use Rattle.states.specs.declared.State.{State}
 use Rattle.states.specs.Sound.{stateHolds}
 use Rattle.engine.specs.declared.Applied.{Applied}

@@ -13,7 +13,7 @@ use states::Best;
 use states::State;
 use states::choice::better_of;
 ghost use mathlib.Core.Path.{_≡_};
-ghost use Rattle.events.specs.Log.{eventsOf};
+ghost use Rattle.logs.specs.Log.{eventsOf};
 ghost use Rattle.states.specs.Sound.{StateSound};
 ghost use Rattle.engine.specs.Apply.{refused, applied};
 ghost use Rattle.engine.specs.Log.{ranOver};

@@ -4,8 +4,6 @@ use mathlib.Core.List.{List, [], _∷_}
 use Rattle.events.specs.declared.Event.{Event}
 use Rattle.events.specs.declared.Reading.{Reading}
 use Rattle.events.specs.declared.Reading.the-variants as R
-use Rattle.events.specs.declared.Writing.{Writing}
-use Rattle.events.specs.declared.Writing.the-variants as W
 
 -- a refusal number, 0 where nothing is refused, and the events that are handed over
 pub record Said : Type 0 where
@@ -16,7 +14,3 @@ abbrev pub readSaid : Reading → Said
 readSaid (R.Event e) = record { number = 0; events = e ∷ [] }
 readSaid R.End = record { number = 0; events = [] }
 readSaid (R.Refused n) = record { number = n; events = [] }
-
-abbrev pub writtenSaid : Writing → Said
-writtenSaid W.Whole = record { number = 0; events = [] }
-writtenSaid (W.Refused n) = record { number = n; events = [] }

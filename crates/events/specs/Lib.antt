@@ -2,4 +2,3 @@
 pub mod Event
 pub mod Record
 pub mod Answer
-pub mod Log

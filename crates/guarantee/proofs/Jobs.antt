@@ -30,7 +30,7 @@ use Rattle.windows.specs.History.{History, start, release, close, openOf}
 use Rattle.windows.proofs.Counts.{counts}
 use Rattle.windows.proofs.Marks.{window-is}
 use Rattle.windows.proofs.Broken.{broken-is}
-use Rattle.response.specs.Above.{taskAt}
+use Rattle.demands.specs.Above.{taskAt}
 use Rattle.rulings.specs.Steps.{reopened}
 use Rattle.engine.specs.Apply.{applied}
 use Rattle.guarantee.specs.History.{Job, stateAfter, recordAfter, closes, closedJob, jobsOf, outcomesOf}

@@ -28,7 +28,7 @@ use Rattle.states.specs.State.{freshState}
 use Rattle.states.specs.Sound.{eachHolds, stateHolds}
 use Rattle.states.specs.Choice.{bestTo}
 use Rattle.response.specs.Fits.{firstFit}
-use Rattle.response.specs.Demand.{demand}
+use Rattle.demands.specs.Demand.{demand}
 use Rattle.bounds.specs.declared.Bound.the-variants as Bound
 use Rattle.bounds.specs.Asked.{allAnswer, oneAnswer}
 use Rattle.engine.specs.Apply.{ticked, releasedAt, completedAt, byKind, timed, acted, applied}

@@ -15,7 +15,7 @@ use Rattle.states.specs.declared.State.{State}
 use Rattle.states.specs.State.{recordAt, freshState}
 use Rattle.states.specs.Sound.{StateSound}
 use Rattle.states.proofs.Starting.{fresh-at, start-sound}
-use Rattle.response.specs.Above.{taskAt}
+use Rattle.demands.specs.Above.{taskAt}
 use Rattle.engine.specs.declared.Applied.{Applied}
 use Rattle.engine.specs.Apply.{acted, applied}
 use Rattle.engine.proofs.Frame.{count-stays, past-stays, row-stays}

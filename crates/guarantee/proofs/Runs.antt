@@ -27,9 +27,9 @@ use Rattle.states.specs.Choice.{chosen}
 use Rattle.records.proofs.Ranks.{Before}
 use Rattle.states.proofs.Least.{Chosen, Found, some, nothing, best-is}
 use Rattle.states.proofs.Starting.{fresh-at}
-use Rattle.response.specs.Above.{taskAt, isAbove}
-use Rattle.response.proofs.Order.{above-tells}
-use Rattle.response.proofs.Obeyed.{deadline-most}
+use Rattle.demands.specs.Above.{taskAt, isAbove}
+use Rattle.demands.proofs.Order.{above-tells}
+use Rattle.demands.proofs.Obeyed.{deadline-most}
 use Rattle.engine.specs.declared.Applied.{Applied}
 use Rattle.rulings.specs.Steps.{tooSoon, reopened}
 use Rattle.engine.specs.Steps.{expiredAll}

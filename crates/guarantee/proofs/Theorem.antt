@@ -13,12 +13,12 @@ use Rattle.tables.proofs.Exactly.{judged-accepted}
 use Rattle.tables.proofs.Ruling.{fault-none}
 use Rattle.states.specs.State.{freshState}
 use Rattle.windows.proofs.Bound.{ledger-kept}
-use Rattle.response.specs.Above.{taskAt, isAbove}
+use Rattle.demands.specs.Above.{taskAt, isAbove}
 use Rattle.response.specs.Bound.{IsBound}
-use Rattle.response.specs.Demand.{spacingOf, demand}
+use Rattle.demands.specs.Demand.{spacingOf, demand}
 use Rattle.response.proofs.Meets.{bound-is}
-use Rattle.response.proofs.Obeyed.{times}
-use Rattle.response.proofs.Order.{above-tells, goes-on}
+use Rattle.demands.proofs.Obeyed.{times}
+use Rattle.demands.proofs.Order.{above-tells, goes-on}
 use Rattle.bounds.specs.Asked.{allAnswer, boundCell}
 use Rattle.bounds.proofs.Exactly.{all-accepted}
 use Rattle.guarantee.specs.Guarantee.{Promise, Guarantee}

@@ -9,7 +9,7 @@ use Rattle.tables.specs.declared.Answer.the-variants.{Accepted}
 use Rattle.windows.specs.Bound.{Kept}
 use Rattle.states.specs.declared.State.{State}
 use Rattle.states.specs.State.{freshState}
-use Rattle.response.specs.Above.{taskAt}
+use Rattle.demands.specs.Above.{taskAt}
 use Rattle.bounds.specs.Asked.{allAnswer, boundCell}
 use Rattle.guarantee.specs.History.{Job, recordAfter, jobsOf, outcomesOf}
 use Rattle.guarantee.specs.Premise.{Premise}

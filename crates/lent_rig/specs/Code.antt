@@ -2,7 +2,7 @@
 use Prim.Native.Nat.{ℕ, _+_}
 use mathlib.Core.List.{List}
 use Rattle.table_bytes.specs.Reading.{readTable}
-use Rattle.events.specs.Log.{eventsOf}
+use Rattle.logs.specs.Log.{eventsOf}
 use Rattle.states.specs.declared.State.{State}
 use Rattle.states.specs.State.{started}
 use Rattle.engine.specs.declared.Answer.{Answer}

@@ -5,7 +5,7 @@ use events::read;
 use lent::apply::apply_of;
 use states::State;
 ghost use mathlib.Core.Path.{_≡_};
-ghost use Rattle.events.specs.Log.{eventsOf};
+ghost use Rattle.logs.specs.Log.{eventsOf};
 ghost use Rattle.engine.specs.Log.{ranOver};
 ghost use Rattle.lent_rig.specs.Code.{begun, answerCode, inPlaceCode};
 

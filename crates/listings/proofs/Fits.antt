@@ -19,7 +19,7 @@ use Rattle.thresholds.specs.Thresholds.{wOf, hOf}
 use Rattle.tables.proofs.Exactly.{judged-accepted}
 use Rattle.tables.proofs.Ruling.{fault-none}
 use Rattle.table_bytes.specs.Reading.{readTable}
-use Rattle.response.specs.Above.{taskAt}
+use Rattle.demands.specs.Above.{taskAt}
 use Rattle.bounds.specs.declared.Bound.{Bound}
 use Rattle.bounds.specs.declared.Bound.the-variants as Bound
 use Rattle.bounds.specs.Asked.{oneAnswer}
@@ -27,8 +27,8 @@ use Rattle.events.specs.declared.Event.{Event}
 use Rattle.events.specs.declared.Reading.{Reading}
 use Rattle.events.specs.declared.Reading.the-variants as R
 use Rattle.events.specs.Record.{readRecord}
-use Rattle.events.specs.Log.{readable, restOf, eventsIn, eventsOf}
-use Rattle.events.proofs.Records.{readable-fits}
+use Rattle.logs.specs.Log.{readable, restOf, eventsIn, eventsOf}
+use Rattle.logs.proofs.Records.{readable-fits}
 use Rattle.records.specs.declared.Record.{Record}
 use Rattle.records.specs.Window.{windowOf}
 use Rattle.soundness.specs.Sound.{openOf, Sound}

@@ -26,7 +26,7 @@ use Rattle.table_bytes.specs.Reading.{recordAt, recordFaultAt, bytesHold, table
 use Rattle.table_bytes.proofs.Exactly.{whole-tells, length-at, record-among}
 use Rattle.response.specs.declared.Found.{Found}
 use Rattle.response.specs.declared.Found.the-variants as Found
-use Rattle.response.specs.Above.{taskAt}
+use Rattle.demands.specs.Above.{taskAt}
 use Rattle.response.specs.Bound.{boundOf}
 use Rattle.response.proofs.Meets.{bound-is}
 use Rattle.bounds.specs.declared.Bound.{Bound}

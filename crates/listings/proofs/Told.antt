@@ -19,8 +19,8 @@ use Rattle.bounds.specs.Asked.{orThirteen, oneAnswer}
 use Rattle.events.specs.declared.Event.{Event}
 use Rattle.events.specs.declared.Reading.the-variants as R
 use Rattle.events.specs.Record.{readRecord}
-use Rattle.events.specs.Log.{readable}
-use Rattle.events.proofs.Rests.{rest-end}
+use Rattle.logs.specs.Log.{readable}
+use Rattle.logs.proofs.Rests.{rest-end}
 use Rattle.states.specs.declared.State.{State}
 use Rattle.engine.specs.declared.Applied.{Applied}
 use Rattle.engine.specs.Apply.{applied}

@@ -11,11 +11,11 @@ use Rattle.tables.specs.Rules.{taskFault}
 use Rattle.tables.specs.Judging.{firstFault, judged}
 use Rattle.table_bytes.specs.Reading.{recordFault, readAnswer, readTable}
 use Rattle.response.specs.Fits.{firstFit}
-use Rattle.response.specs.Demand.{demand}
+use Rattle.demands.specs.Demand.{demand}
 use Rattle.bounds.specs.Asked.{oneAnswer}
 use Rattle.events.specs.Event.{faultOf, zeroes}
 use Rattle.events.specs.Record.{marks, readRecord}
-use Rattle.events.specs.Log.{readableIn, readable, eventsIn}
+use Rattle.logs.specs.Log.{readableIn, readable, eventsIn}
 use Rattle.records.specs.Closing.{closed}
 use Rattle.records.specs.Opening.{expired, opened}
 use Rattle.soundness.specs.Sound.{soundHolds}

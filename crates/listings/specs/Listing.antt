@@ -13,7 +13,7 @@ use Rattle.table_bytes.specs.declared.TableRead.{TableRead}
 use Rattle.table_bytes.specs.Reading.{readTable}
 use Rattle.bounds.specs.Asked.{oneAnswer}
 use Rattle.events.specs.declared.Reading.the-variants as R
-use Rattle.events.specs.Log.{eventsOf}
+use Rattle.logs.specs.Log.{eventsOf}
 use Rattle.states.specs.declared.State.{State}
 use Rattle.states.specs.State.{recordAt, freshState}
 use Rattle.task_lines.specs.Lines.{taskLine, lastLine}

@@ -3,9 +3,9 @@ use crate::print::number;
 use crate::print::row;
 use crate::print::text;
 use crate::print::wide;
+use event_writing::Writing;
 use events::Event;
 use events::Reading;
-use events::Writing;
 use std::num::wrapping_add_u64;
 ghost use Prim.Native.Nat.{_+_, _≤_};
 ghost use lib.ListN.{length};
@@ -22,7 +22,7 @@ struct Sums {
 // 1 where an event is written as the bytes that it was read from, with the byte past them as it was.
 fn again(event: Event, bytes: &[u8]) -> u64 {
     let mut out = [0xAAu8; 21];
-    let Writing::Whole = events::write(event, &mut out) else {
+    let Writing::Whole = event_writing::write(event, &mut out) else {
         return 0;
     };
     if out[20] != 0xAA {
@@ -81,7 +81,7 @@ fn sums_of(log: &[u8]) -> Sums {
 
 // What reading says at record i, in a line.
 fn place(log: &[u8], i: usize) {
-    match events::event_at(log, i) {
+    match logs::event_at(log, i) {
         Reading::Event(event) => row(
             b"event ",
             i as u64,
@@ -112,12 +112,12 @@ fn places(log: &[u8], count: usize) {
 
 // Where the reading stopped, from the first byte of the log.
 fn offset(log: &[u8]) -> usize {
-    let rest = events::rest(log);
+    let rest = logs::rest(log);
     log.len() - rest.len()
 }
 
 fn stop(log: &[u8]) {
-    match events::read(events::rest(log)) {
+    match events::read(logs::rest(log)) {
         Reading::Refused(n) => {
             number(b" stop ", wide(n));
             number(b" at ", offset(log) as u64);
@@ -129,7 +129,7 @@ fn stop(log: &[u8]) {
 }
 
 fn one(k: u64, log: &[u8]) {
-    let count = events::count(log);
+    let count = logs::count(log);
     number(b"log ", k);
     number(b" records ", count as u64);
     stop(log);

@@ -3,8 +3,8 @@ use crate::print::number;
 use crate::print::row;
 use crate::print::text;
 use crate::print::wide;
+use event_writing::Writing;
 use events::Event;
-use events::Writing;
 use std::num::wrapping_add_u64;
 
 const KINDS: [u8; 5] = [0, 1, 2, 3, 255];
@@ -30,7 +30,7 @@ fn write_to(event: Event, out: &mut [u8], room: usize) -> Writing {
     if out.len() < room {
         return Writing::Refused(0);
     }
-    events::write(event, &mut out[..room])
+    event_writing::write(event, &mut out[..room])
 }
 
 // What writing says, and the sum of all bytes afterwards.

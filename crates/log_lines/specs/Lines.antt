@@ -5,7 +5,7 @@ use Rattle.events.specs.declared.Event.{Event}
 use Rattle.events.specs.declared.Reading.{Reading}
 use Rattle.events.specs.declared.Reading.the-variants as R
 use Rattle.events.specs.Record.{readRecord}
-use Rattle.events.specs.Log.{readable, restOf}
+use Rattle.logs.specs.Log.{readable, restOf}
 use Rattle.states.specs.declared.State.{State}
 use Rattle.engine.specs.Apply.{applied}
 use Rattle.event_lines.specs.Lines.{eventLine, stopLine}

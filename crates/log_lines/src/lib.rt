@@ -2,10 +2,10 @@
 use engine::apply::apply;
 use events::Reading;
 use events::read;
-use events::rest;
+use logs::rest;
 use states::State;
 ghost use mathlib.Core.Path.{_≡_};
-ghost use Rattle.events.specs.Log.{eventsOf};
+ghost use Rattle.logs.specs.Log.{eventsOf};
 ghost use Rattle.texts.specs.Sheet.{sheet, puts};
 ghost use Rattle.log_lines.specs.Lines.{eventLines, stateAfter, stopText};
 

@@ -8,12 +8,12 @@ use Rattle.tables.specs.declared.Table.{Table}
 use Rattle.tables.specs.declared.Answer.the-variants.{Accepted}
 use Rattle.tables.specs.Judging.{judged}
 use Rattle.response.specs.declared.Found.the-variants.{At, Nothing}
-use Rattle.response.specs.Above.{taskAt}
-use Rattle.response.specs.Demand.{costOf, partAt, demand}
+use Rattle.demands.specs.Above.{taskAt}
+use Rattle.demands.specs.Demand.{costOf, partAt, demand}
 use Rattle.response.specs.Bound.{IsBound, NoBound, boundOf}
 use Rattle.response.proofs.Fits.{smallest-one, smallest-equal, fit-at, fit-none, fit-at-then, fit-none-then}
-use Rattle.response.proofs.Obeyed.{cost-some}
-use Rattle.response.proofs.Rising.{demand-mono, demand-own}
+use Rattle.demands.proofs.Obeyed.{cost-some}
+use Rattle.demands.proofs.Rising.{demand-mono, demand-own}
 
 -- the bound that is found is the smallest R, and nothing is found exactly where there is none
 module _ (t : Table) (k : ℕ) where

@@ -2,8 +2,8 @@
 use Prim.Native.Nat.{ℕ}
 use Rattle.tables.specs.declared.Table.{Table}
 use Rattle.response.specs.declared.Found.{Found}
-use Rattle.response.specs.Above.{taskAt}
-use Rattle.response.specs.Demand.{demand}
+use Rattle.demands.specs.Above.{taskAt}
+use Rattle.demands.specs.Demand.{demand}
 use Rattle.response.specs.Fits.{Smallest, NoneFits, firstFit}
 
 abbrev pub IsBound : Table → ℕ → ℕ → Type 0

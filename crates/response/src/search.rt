@@ -1,16 +1,16 @@
 // The search for a bound: R rises from the task's own cost by the recurrence and stops at the first fit.
 use super::Found;
-use super::Load;
-use super::Part;
-use super::above::load_of;
+use demands::Load;
+use demands::Part;
+use demands::above::load_of;
 use tables::Table;
 ghost use mathlib.Core.Path.{_≡_};
 ghost use Prim.Native.Nat.{_*_, _<_, _≤_};
 ghost use Rattle.tables.specs.declared.Answer.the-variants.{Accepted};
 ghost use Rattle.tables.specs.Judging.{judged};
-ghost use Rattle.response.specs.Demand.{partOf};
+ghost use Rattle.demands.specs.Demand.{partOf};
 ghost use Rattle.response.specs.Fits.{firstFit};
-ghost use Rattle.response.specs.Load.{Ready, loadDemand};
+ghost use Rattle.demands.specs.Load.{Ready, loadDemand};
 ghost use Rattle.response.specs.Bound.{boundOf};
 
 fn part_of(part: Part, r: u64) -> u64

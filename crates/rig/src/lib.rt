@@ -5,7 +5,7 @@ use states::State;
 ghost use mathlib.Core.Path.{_≡_};
 ghost use Prim.Native.Nat.{_+_, _<_};
 ghost use Rattle.states.specs.Sound.{StateSound};
-ghost use Rattle.rig.specs.Code.{codeFor, ofAnswer, Said, logCase, codeOf};
+ghost use Rattle.codes.specs.Code.{codeFor, ofAnswer, Said, logCase, codeOf};
 
 // 32 + N for refusal N.
 fn refusal(number: u8) -> u32
@@ -42,7 +42,7 @@ fn log_code(state: State, log: &[u8]) -> u32
     requires { ⌜ StateSound state ⌝ }
     ensures { λ r. ⌜ r ≡ codeFor (logCase state (now (log .entry))) ⌝ }
 {
-    let left = events::rest(log);
+    let left = logs::rest(log);
     if let Reading::Refused(fault) = events::read(left) {
         return refusal(fault);
     }

@@ -35,10 +35,10 @@ fn line(said: Answer) {
 
 // The events one by one.
 fn events_on(first: State, log: &[u8]) -> State {
-    let n = events::count(log);
+    let n = logs::count(log);
     let mut state = first;
     for i in 0..n {
-        let Reading::Event(event) = events::event_at(log, i) else {
+        let Reading::Event(event) = logs::event_at(log, i) else {
             return state;
         };
         let done = apply(state, event);

@@ -7,20 +7,22 @@ use borrow.Author.Needs.{needs}
 use lib.ListN.{length}
 use Rattle.laws.proofs.Parts.{tail-is}
 use Rattle.events.specs.Record.{readRecord}
+use Rattle.logs.proofs.Going.{Going, going-none, going-more, going-stop}
 use Rattle.engine.specs.declared.Applied.{Applied}
+use Rattle.engine.specs.Apply.{applied}
+use Rattle.engine.specs.Log.{ranOver}
 use Rattle.lent_rig.specs.Code.{begun}
-use Rattle.lent_rig.proofs.Turns.{Going, going-none, going-more, going-stop}
 use Rattle.lent_rig.proofs.run_in.Statement.{statement}
 use Rattle.lent_rig.proofs.run_in.Tie as tie
 
 abbrev Inv-loop : tie.InvT-loop
-Inv-loop log said₀ state₀ from₀ said state from = Going (begun state₀) log (record { answer = said; state = state }) from
+Inv-loop log said₀ state₀ from₀ said state from = Going ranOver (begun state₀) log (record { answer = said; state = state }) from
 
 abbrev μ-loop : tie.MeasureT-loop
 μ-loop log said₀ state₀ from₀ said state from = length log - from
 
 loop-holds : tie.Need-loop-holds Inv-loop μ-loop
-loop-holds c = let a = c .before .args in going-none (begun (a .first)) (a .log .now)
+loop-holds c = let a = c .before .args in going-none ranOver (begun (a .first)) (a .log .now)
 
 sub-read : tie.Need-sub-read Inv-loop μ-loop
 sub-read c = c .loop .inv .within
@@ -38,6 +40,7 @@ enum-known-event : tie.Need-enum-known-event Inv-loop μ-loop
 enum-known-event c = c .match .keys1
 
 returns : tie.Need-returns Inv-loop μ-loop
+unfolding ranOver
 returns c =
     let l = c .before .before .before in
     let a = l .before .before .args in
@@ -45,7 +48,7 @@ returns c =
     let e = c .before .read .ensures ∙ ap readRecord (tail-is s (l .loop .from)) in
     sym
     (ap (λ (x : Applied). x .answer)
-    (going-stop (begun (a .first)) s (record { answer = l .loop .said; state = l .loop .state }) (l .loop .from) (l .loop .inv)
+    (going-stop ranOver (begun (a .first)) s (record { answer = l .loop .said; state = l .loop .state }) (l .loop .from) (l .loop .inv)
     (λ x q. ⊎-elim (λ t. omega (arith, rw (e ∙ q) at t)) (λ t. omega (arith, rw (e ∙ q) at t)) (c .match .keys2))))
 
 apply-of-requires : tie.Need-apply-of-requires Inv-loop μ-loop
@@ -53,7 +56,8 @@ apply-of-requires c κs = search needs
 
 -- after a record that reads
 again : (c : tie.After-state Inv-loop μ-loop)
-    → Going (begun (c .before .before .before .before .before .before .before .before .before .args .first)) (c .before .before .before .before .before .before .before .before .before .args .log .now) (c .before .apply-of .result) (c .before .before .before .before .before .before .before .loop .from + 20)
+    → Going ranOver (begun (c .before .before .before .before .before .before .before .before .before .args .first)) (c .before .before .before .before .before .before .before .before .before .args .log .now) (c .before .apply-of .result) (c .before .before .before .before .before .before .before .loop .from + 20)
+unfolding ranOver
 again c =
     let p = c .before in
     let r = p .before .before .before .before in
@@ -62,7 +66,8 @@ again c =
     let s = a .log .now in
     let g = p .before .before .event .given in
     let e = ap readRecord (sym (tail-is s (l .loop .from))) ∙ sym (r .read .ensures) ∙ g .1 in
-    rw (p .apply-of .ensures) (going-more (begun (a .first)) s (record { answer = l .loop .said; state = l .loop .state }) (l .loop .from) (l .loop .inv) (g .0 .0) e)
+    rw (p .apply-of .ensures)
+    (going-more ranOver (begun (a .first)) s (record { answer = l .loop .said; state = l .loop .state }) (l .loop .from) (l .loop .inv) (g .0 .0) (applied (l .loop .state) (g .0 .0)) e (λ es. refl))
 
 add-from : tie.Need-add-from Inv-loop μ-loop
 add-from c = omega (arith, again c .within)

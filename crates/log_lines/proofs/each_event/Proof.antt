@@ -7,12 +7,12 @@ use borrow.Author.Needs.{needs}
 use lib.ListN.{length}
 use Rattle.laws.proofs.Parts.{tail-is}
 use Rattle.events.specs.Record.{readRecord}
-use Rattle.log_lines.proofs.Events.{Going, going-none, going-more, going-stop}
+use Rattle.log_lines.proofs.Events.{Listing, listing-none, listing-more, listing-stop}
 use Rattle.log_lines.proofs.each_event.Statement.{statement}
 use Rattle.log_lines.proofs.each_event.Tie as tie
 
 abbrev Inv-loop : tie.InvT-loop
-Inv-loop out₀ at log place₀ state₀ i₀ from₀ out place state i from = Going out₀ at state₀ log out place state i from
+Inv-loop out₀ at log place₀ state₀ i₀ from₀ out place state i from = Listing out₀ at state₀ log out place state i from
 
 abbrev μ-loop : tie.MeasureT-loop
 μ-loop out₀ at log place₀ state₀ i₀ from₀ out place state i from = length log - from
@@ -20,13 +20,13 @@ abbrev μ-loop : tie.MeasureT-loop
 loop-holds : tie.Need-loop-holds Inv-loop μ-loop
 loop-holds c =
     let a = c .before .before .args in
-    going-none (a .out .now) (a .at) (a .first) (a .log .now)
+    listing-none (a .out .now) (a .at) (a .first) (a .log .now)
 
 sub-read : tie.Need-sub-read Inv-loop μ-loop
-sub-read c = c .loop .inv .within
+sub-read c = c .loop .inv .going .within
 
 part-read-start : tie.Need-part-read-start Inv-loop μ-loop
-part-read-start c = c .loop .inv .within
+part-read-start c = c .loop .inv .going .within
 
 part-read-end : tie.Need-part-read-end Inv-loop μ-loop
 part-read-end c = search needs
@@ -46,7 +46,7 @@ returns c =
     let a = l .before .before .before .args in
     let s = a .log .now in
     let e = c .before .read .ensures ∙ ap readRecord (tail-is s (l .loop .from)) in
-    going-stop (a .out .now) (a .at) (a .first) s (l .loop .out) (l .loop .place) (l .loop .state) (l .loop .i) (l .loop .from) (l .loop .inv)
+    listing-stop (a .out .now) (a .at) (a .first) s (l .loop .out) (l .loop .place) (l .loop .state) (l .loop .i) (l .loop .from) (l .loop .inv)
     (λ x q. ⊎-elim (λ t. omega (arith, rw (e ∙ q) at t)) (λ t. omega (arith, rw (e ∙ q) at t)) (c .match .keys2))
 
 apply-requires : tie.Need-apply-requires Inv-loop μ-loop
@@ -55,14 +55,14 @@ apply-requires c κs = tt
 add-i : tie.Need-add-i Inv-loop μ-loop
 add-i c =
     let l = c .before .before .before .before .before .before .before in
-    omega (arith, l .loop .inv .turns, l .loop .inv .within)
+    omega (arith, l .loop .inv .turns, l .loop .inv .going .within)
 
 event-requires : tie.Need-event-requires Inv-loop μ-loop
 event-requires c κs = tt
 
 -- after a record that reads
 again : (c : tie.After-slice-known2 Inv-loop μ-loop)
-    → Going (c .before .before .before .before .before .before .before .before .before .before .before .before .before .before .args .out .now) (c .before .before .before .before .before .before .before .before .before .before .before .before .before .before .args .at) (c .before .before .before .before .before .before .before .before .before .before .before .before .before .before .args .first) (c .before .before .before .before .before .before .before .before .before .before .before .before .before .before .args .log .now) (c .before .before .event2 .last .0) (c .before .before .event2 .result) (c .before .before .before .before .before .apply .result .state) (c .before .before .before .before .before .before .before .before .before .before .before .loop .i + 1) (c .before .before .before .before .before .before .before .before .before .before .before .loop .from + 20)
+    → Listing (c .before .before .before .before .before .before .before .before .before .before .before .before .before .before .args .out .now) (c .before .before .before .before .before .before .before .before .before .before .before .before .before .before .args .at) (c .before .before .before .before .before .before .before .before .before .before .before .before .before .before .args .first) (c .before .before .before .before .before .before .before .before .before .before .before .before .before .before .args .log .now) (c .before .before .event2 .last .0) (c .before .before .event2 .result) (c .before .before .before .before .before .apply .result .state) (c .before .before .before .before .before .before .before .before .before .before .before .loop .i + 1) (c .before .before .before .before .before .before .before .before .before .before .before .loop .from + 20)
 again c =
     let t = c .before .before in
     let p = t .before .before .before in
@@ -74,13 +74,13 @@ again c =
     let e = ap readRecord (sym (tail-is s (l .loop .from))) ∙ sym (r .read .ensures) ∙ g .1 in
     let d = t .event2 .ensures in
     rw (p .apply .ensures)
-    (going-more (a .out .now) (a .at) (a .first) s (l .loop .out) (l .loop .place) (l .loop .state) (l .loop .i) (l .loop .from) (l .loop .inv) (g .0 .0) (t .event2 .last .0) (t .event2 .result) e (t .event2 .kept .0) (rw (p .apply .ensures) at d))
+    (listing-more (a .out .now) (a .at) (a .first) s (l .loop .out) (l .loop .place) (l .loop .state) (l .loop .i) (l .loop .from) (l .loop .inv) (g .0 .0) (t .event2 .last .0) (t .event2 .result) e (t .event2 .kept .0) (rw (p .apply .ensures) at d))
 
 add-from : tie.Need-add-from Inv-loop μ-loop
-add-from c = omega (arith, again c .within)
+add-from c = omega (arith, again c .going .within)
 
 loop-less : tie.Need-loop-less Inv-loop μ-loop
-loop-less c = omega (arith, again c .within)
+loop-less c = omega (arith, again c .going .within)
 
 loop-again : tie.Need-loop-again Inv-loop μ-loop
 loop-again c = again c

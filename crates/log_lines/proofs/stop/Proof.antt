@@ -6,8 +6,8 @@ use native.Mathlib.Omega.{arith}
 use lib.ListN.{length-drop}
 use Rattle.texts.specs.Sheet.{puts}
 use Rattle.events.specs.Record.{readRecord}
-use Rattle.events.specs.Log.{readable, restOf}
-use Rattle.events.proofs.Rests.{rest-offset}
+use Rattle.logs.specs.Log.{readable, restOf}
+use Rattle.logs.proofs.Rests.{rest-offset}
 use Rattle.log_lines.specs.Lines.{stopText}
 use Rattle.log_lines.proofs.Events.{no-stop}
 use borrow.Author.Needs.{needs}

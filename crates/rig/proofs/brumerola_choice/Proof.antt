@@ -9,9 +9,9 @@ use Rattle.table_bytes.specs.Reading.{readTable}
 use Rattle.states.specs.declared.Started.{Started}
 use Rattle.states.specs.declared.State.{State}
 use Rattle.states.specs.State.{freshState, started}
-use Rattle.rig.specs.Code.{codeFor, logCase, codeOf}
-use Rattle.rig.proofs.Starts.{start-fresh, begins-sound}
-use Rattle.rig.proofs.Cases.{case-long, case-table, case-log}
+use Rattle.codes.specs.Code.{codeFor, logCase, codeOf}
+use Rattle.codes.proofs.Starts.{start-fresh, begins-sound}
+use Rattle.codes.proofs.Cases.{case-long, case-table, case-log}
 use Rattle.rig.proofs.brumerola_choice.Statement.{statement}
 use Rattle.rig.proofs.brumerola_choice.Tie as tie
 

@@ -6,9 +6,9 @@ use borrow.Author.Needs.{needs}
 use Rattle.events.specs.Record.{readRecord}
 use Rattle.engine.specs.declared.Applied.{Applied}
 use Rattle.engine.specs.Log.{ran}
-use Rattle.rig.specs.Code.{codeFor, ofAnswer}
-use Rattle.rig.proofs.Answers.{ran-said, said-16}
-use Rattle.rig.proofs.Cases.{case-stopped, case-ended}
+use Rattle.codes.specs.Code.{codeFor, ofAnswer}
+use Rattle.codes.proofs.Answers.{ran-said, said-16}
+use Rattle.codes.proofs.Cases.{case-stopped, case-ended}
 use Rattle.rig.proofs.log_code.Statement.{statement}
 use Rattle.rig.proofs.log_code.Tie as tie
 

@@ -8,7 +8,7 @@ use Rattle.laws.proofs.Stores.{filled-same}
 use Rattle.tables.specs.declared.Answer.the-variants.{Accepted}
 use Rattle.tables.specs.Judging.{judged}
 use Rattle.bounds.specs.Asked.{boundCell, allAnswer, allCells}
-use Rattle.response.proofs.Obeyed.{few}
+use Rattle.demands.proofs.Obeyed.{few}
 use Rattle.bounds.proofs.of_table.all.Statement.{statement}
 use Rattle.bounds.proofs.of_table.all.Tie as tie
 

@@ -11,7 +11,7 @@ use Rattle.tables.specs.Judging.{firstFault}
 use Rattle.tables.proofs.Faults.{none-more, found-at}
 use Rattle.response.specs.Answers.{foundNumber}
 use Rattle.bounds.specs.Asked.{boundFault, boundCell}
-use Rattle.response.proofs.Obeyed.{few}
+use Rattle.demands.proofs.Obeyed.{few}
 use Rattle.bounds.proofs.of_table.row_of.Statement.{statement}
 use Rattle.bounds.proofs.of_table.row_of.Tie as tie
 

@@ -16,7 +16,7 @@ use Rattle.rulings.proofs.Prompt.{seat-below}
 use Rattle.engine.specs.declared.Applied.{Applied}
 use Rattle.engine.specs.Apply.{moved, acted, applied}
 use Rattle.engine.proofs.Rulings.{Decides, refused-by, accepted-by, decided}
-use Rattle.engine.proofs.Runs.{sound-acts, Going, going-none, going-more, going-stop}
+use Rattle.engine.proofs.Runs.{sound-acts, Running, running-none, running-more, running-stop}
 use Rattle.engine.proofs.Settled.{Settling, settling-none, settling-more, late-closed, prompt-stays, settled-accepted}
 use Rattle.engine.proofs.acting.act.Statement.{statement}
 use Rattle.engine.proofs.acting.act.Tie as tie
@@ -30,7 +30,7 @@ abbrev μ-loop2 : tie.MeasureT-loop2
 μ-loop2 log count next₀ event from at best₀ i₀ next best i = count - i
 
 abbrev Inv-loop : tie.InvT-loop
-Inv-loop log count next₀ event₀ from₀ next event from = Going next₀ event₀ log from next event
+Inv-loop log count next₀ event₀ from₀ next event from = Running next₀ event₀ log from next event
 
 abbrev μ-loop : tie.MeasureT-loop
 μ-loop log count next₀ event₀ from₀ next event from = length log - from
@@ -111,7 +111,7 @@ body c =
 -- ---- the needs, in the code's order
 
 loop-holds : tie.Need-loop-holds Inv-loop2 μ-loop2 Inv-loop μ-loop
-loop-holds c = going-none (c .before .args .state) (c .before .args .first) (c .before .args .log .now) (c .before .pre)
+loop-holds c = running-none (c .before .args .state) (c .before .args .first) (c .before .args .log .now) (c .before .pre)
 
 seat-requires : tie.Need-seat-requires Inv-loop2 μ-loop2 Inv-loop μ-loop
 seat-requires c κs = search needs
@@ -199,10 +199,10 @@ told-requires : tie.Need-told-requires Inv-loop2 μ-loop2 Inv-loop μ-loop
 told-requires c κs = search needs
 
 sub-read : tie.Need-sub-read Inv-loop2 μ-loop2 Inv-loop μ-loop
-sub-read c = c .before .before .before .before .before .loop .inv .within
+sub-read c = c .before .before .before .before .before .loop .inv .going .within
 
 part-read-start : tie.Need-part-read-start Inv-loop2 μ-loop2 Inv-loop μ-loop
-part-read-start c = c .before .before .before .before .before .loop .inv .within
+part-read-start c = c .before .before .before .before .before .loop .inv .going .within
 
 part-read-end : tie.Need-part-read-end Inv-loop2 μ-loop2 Inv-loop μ-loop
 part-read-end c = search needs
@@ -220,25 +220,25 @@ returns c =
     let a = j .before .before .before .before .before .before .before .args in
     let e = c .before .read .ensures ∙ ap readRecord (tail-is (a .log .now) (l .from)) in
     sym (body j)
-    ∙ going-stop (a .state) (a .first) (a .log .now) (l .from) (l .next) (l .event) (l .inv)
+    ∙ running-stop (a .state) (a .first) (a .log .now) (l .from) (l .next) (l .event) (l .inv)
     (λ x q. ⊎-elim (λ t. omega (arith, rw (e ∙ q) at t)) (λ t. omega (arith, rw (e ∙ q) at t)) (c .match .keys2))
 
 -- after a record that reads
 again : (c : tie.After-known-told Inv-loop2 μ-loop2 Inv-loop μ-loop)
-    → Going (c .before .before .before .before .before .before .before .before .before .before .before .before .args .state) (c .before .before .before .before .before .before .before .before .before .before .before .before .args .first) (c .before .before .before .before .before .before .before .before .before .before .before .before .args .log .now) (c .before .before .before .before .before .before .before .before .before .before .loop .from + 20) (c .before .before .before .before .before .if1 .next) (c .before .other .given .0 .0)
+    → Running (c .before .before .before .before .before .before .before .before .before .before .before .before .args .state) (c .before .before .before .before .before .before .before .before .before .before .before .before .args .first) (c .before .before .before .before .before .before .before .before .before .before .before .before .args .log .now) (c .before .before .before .before .before .before .before .before .before .before .loop .from + 20) (c .before .before .before .before .before .if1 .next) (c .before .other .given .0 .0)
 again c =
     let j = c .before .before .before .before .before in
     let l = j .before .before .before .before .before .loop in
     let a = j .before .before .before .before .before .before .before .args in
     let g = c .before .other .given in
     let e = ap readRecord (sym (tail-is (a .log .now) (l .from))) ∙ sym (c .before .before .before .read .ensures) ∙ g .1 in
-    rw (← ap (λ (x : Applied). x .state) (body j)) (going-more (a .state) (a .first) (a .log .now) (l .from) (l .next) (l .event) (l .inv) (g .0 .0) e)
+    rw (← ap (λ (x : Applied). x .state) (body j)) (running-more (a .state) (a .first) (a .log .now) (l .from) (l .next) (l .event) (l .inv) (g .0 .0) e)
 
 add-from : tie.Need-add-from Inv-loop2 μ-loop2 Inv-loop μ-loop
-add-from c = omega (arith, again c .within)
+add-from c = omega (arith, again c .going .within)
 
 loop-less : tie.Need-loop-less Inv-loop2 μ-loop2 Inv-loop μ-loop
-loop-less c = omega (arith, again c .within)
+loop-less c = omega (arith, again c .going .within)
 
 loop-again : tie.Need-loop-again Inv-loop2 μ-loop2 Inv-loop μ-loop
 loop-again c = again c

@@ -8,8 +8,8 @@ use lib.ListN.{length}
 use Rattle.laws.proofs.Parts.{tail-is}
 use Rattle.events.specs.declared.Reading.the-variants as R
 use Rattle.events.specs.Record.{readRecord}
-use Rattle.events.specs.Log.{eventsOf}
-use Rattle.events.proofs.Records.{goes-of}
+use Rattle.logs.specs.Log.{eventsOf}
+use Rattle.logs.proofs.Records.{goes-of}
 use Rattle.states.specs.Sound.{StateSound}
 use Rattle.states.proofs.Sounding.{state-tells}
 use Rattle.engine.specs.Apply.{applied}

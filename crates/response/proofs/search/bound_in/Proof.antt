@@ -2,12 +2,12 @@
 use mathlib.Core.Path.{_∙_}
 use native.Mathlib.Omega.{arith}
 use borrow.Author.Needs.{needs}
-use Rattle.response.specs.Demand.{demand}
-use Rattle.response.specs.Load.{loadDemand}
-use Rattle.response.specs.Above.{taskAt}
+use Rattle.demands.specs.Demand.{demand}
+use Rattle.demands.specs.Load.{loadDemand}
+use Rattle.demands.specs.Above.{taskAt}
 use Rattle.response.proofs.Fits.{fit-same}
-use Rattle.response.proofs.Gathering.{load-same}
-use Rattle.response.proofs.Obeyed.{few, deadline-most}
+use Rattle.demands.proofs.Gathering.{load-same}
+use Rattle.demands.proofs.Obeyed.{few, deadline-most}
 use Rattle.response.proofs.search.bound_in.Statement.{statement}
 use Rattle.response.proofs.search.bound_in.Tie as tie
 

@@ -5,7 +5,7 @@ use native.Mathlib.Numerals.{add-one}
 use native.Mathlib.Omega.{arith}
 use borrow.Author.Needs.{needs}
 use Rattle.laws.specs.Sums.{total}
-use Rattle.response.specs.Load.{partIn, loadDemand}
+use Rattle.demands.specs.Load.{partIn, loadDemand}
 use Rattle.response.proofs.search.demand.Statement.{statement}
 use Rattle.response.proofs.search.demand.Tie as tie
 

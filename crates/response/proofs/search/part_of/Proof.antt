@@ -1,11 +1,11 @@
 -- `search::part_of` meets its contract: a stretch begins no more spacings than it has ticks, so the product fits.
-use Prim.Native.Nat.{_-_, _*_, _≤_}
+use Prim.Native.Nat.{_*_, _≤_}
 use mathlib.Core.Path.{refl}
 use native.Mathlib.Nat.{mul-le-mul, le-trans}
 use native.Mathlib.Omega.{arith}
 use borrow.Author.Needs.{needs}
 use Rattle.laws.proofs.Numbers.{ceiling-small}
-use Rattle.response.specs.Demand.{partOf}
+use Rattle.demands.specs.Demand.{partOf}
 use Rattle.response.proofs.search.part_of.Statement.{statement}
 use Rattle.response.proofs.search.part_of.Tie as tie
 

@@ -1,0 +1,1 @@
+// No code: what the bench rig answers stands in specs/ and proofs/.

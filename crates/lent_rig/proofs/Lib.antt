@@ -1,2 +1,0 @@
--- What is shown beside the functions' contracts.
-pub mod Turns

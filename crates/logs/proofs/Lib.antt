@@ -1,0 +1,5 @@
+-- What is shown of a log beside the functions' contracts.
+pub mod Records
+pub mod Logs
+pub mod Rests
+pub mod Going
