@@ -1,6 +1,6 @@
 -- A case is the rig's exactly when document 01's rule for it holds: the tests decide the rules in their order, and the last event of a log
 -- is the one that is applied last.
-use Prim.Native.Nat.{ℕ, zero, suc, _≤_, _<_}
+use Prim.Native.Nat.{ℕ, zero, suc, _+_, _≤_, _<_}
 use mathlib.Core.Path.{_≡_, refl, sym, ap, _∙_}
 use mathlib.Core.List.{List, [], _∷_, _++_}
 use mathlib.Core.Logic.{_↔_}
@@ -22,10 +22,11 @@ use Rattle.logs.proofs.Rests.{rest-silent, rest-end}
 use Rattle.states.specs.declared.State.{State}
 use Rattle.states.specs.State.{freshState}
 use Rattle.states.proofs.Sounding.{state-tells}
+use Rattle.engine.specs.declared.Answer.the-variants as A
 use Rattle.engine.specs.declared.Applied.{Applied}
 use Rattle.engine.specs.Apply.{applied}
 use Rattle.engine.specs.Log.{standing, ranOver, ran}
-use Rattle.codes.specs.Code.{Case, none, ofAnswer, caseOf}
+use Rattle.codes.specs.Code.{Case, none, codeFor, ofAnswer, caseOf, codeOf}
 use Rattle.codes.specs.Given.{Begun, Whole, stateAfter, Given, long, bad-table, bad-record, empty, last}
 use Rattle.codes.proofs.Starts.{begins-sound, begins-idle}
 use Rattle.codes.proofs.Cases.{case-stopped, case-ended, case-long, case-table, case-log}
@@ -142,3 +143,9 @@ module _ (table log : List ℕ) where
   -- so the rules admit a single answer
   pub given-single : {a b : Case} → Given table log a → Given table log b → a ≡ b
   given-single = one-answer (Given table log) given-is given-only
+
+  -- a last event that is refused is told by its number
+  pub last-refused : (n : ℕ) → Whole table log → (es : List Event) (e : Event) → eventsOf log ≡ es ++ (e ∷ [])
+      → applied (stateAfter table es) e .answer ≡ A.Refused n → codeOf table log ≡ 32 + n
+  unfolding codeOf
+  last-refused n w es e q a = ap codeFor (by-last w es e q ∙ ap ofAnswer a)
