@@ -4,8 +4,7 @@ set -eu
 cd "$(dirname "$0")/.."
 . tests/machine.sh
 compiler
-rt staticlib rig
+[ -x target/tests/rig ] || tests/rig.sh
 rt staticlib lent_rig
-mkdir -p target/tests
 "$cc" -std=c99 -Wall -Wextra -Werror -O2 -I include -static -o target/tests/in_place tests/in_place.c target/staticlib/librig.a target/staticlib/liblent_rig.a
 $run target/tests/in_place "$@"

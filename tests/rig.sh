@@ -18,7 +18,7 @@ head -c -20 examples/line.bin >target/tests/line.bin
 [ "$($run target/tests/choice target/tests/line.bin)" = "task 2 runs" ]
 if [ -z "$run" ]; then
     needs valgrind valgrind
-    # with the C library as a file of its own, since valgrind knows its functions by it
+    # with the C library as a file of its own, since valgrind knows its functions by it; the children that run into a guard on purpose are not reported
     build -g -o target/tests/rig_watched
-    valgrind -q --error-exitcode=9 target/tests/rig_watched tests/cases/rig
+    valgrind -q --child-silent-after-fork=yes --error-exitcode=9 target/tests/rig_watched tests/cases/rig
 fi
