@@ -5,5 +5,3 @@ pub mod Rows
 pub mod Locals
 pub mod Called
 pub mod Choices
-pub mod Turns
-pub mod Fronts

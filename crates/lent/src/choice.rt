@@ -1,11 +1,21 @@
 // The choice is made over a lent row of task records, of any length.
-use super::steps::no_best;
 use records::Record;
 use states::Best;
 use states::choice::better_of;
 ghost use mathlib.Core.Path.{_≡_};
 ghost use lib.ListN.{length};
-ghost use Rattle.states.specs.Choice.{bestTo};
+ghost use Rattle.states.specs.Choice.{none, bestTo};
+
+// No job is chosen where none is passed.
+pub fn no_best() -> Best
+    ensures { λ r. ⌜ r ≡ none ⌝ }
+{
+    Best {
+        found: false,
+        key: 0,
+        at: 0,
+    }
+}
 
 pub fn choose_in(row: &[Record]) -> Best
     ensures { λ r. ⌜ r ≡ bestTo (now (row .entry)) (length (now (row .entry))) ⌝ }

@@ -1,35 +1,10 @@
-// What the walks do with one record, and with an event's ruling, on values.
-use super::Turn;
-use engine::Answer;
-use engine::Applied;
-use engine::telling::told;
-use events::Event;
+// What the judging of a lent row asks of its length and of one record, on values.
 use records::Record;
-use rulings::Ruling;
-use rulings::judging::seat;
 use soundness::sound;
-use states::Best;
-use states::State;
-use tables::Task;
 ghost use mathlib.Core.Path.{_≡_};
 ghost use mathlib.Core.Bool.{cond, false};
 ghost use Rattle.soundness.specs.Sound.{soundHolds};
-ghost use Rattle.states.specs.Choice.{none};
-ghost use Rattle.engine.specs.Apply.{toldOf};
-ghost use Rattle.rulings.specs.Ruling.{seatOf};
 ghost use Rattle.lent.specs.Row.{admitted};
-ghost use Rattle.lent.specs.Turns.{unsound, refusedTurn, acceptedTurn, placedBy};
-
-// No job is chosen where none is passed.
-pub fn no_best() -> Best
-    ensures { λ r. ⌜ r ≡ none ⌝ }
-{
-    Best {
-        found: false,
-        key: 0,
-        at: 0,
-    }
-}
 
 // What is asked of a state before any record is looked at.
 pub fn admits(count: usize, clock: u64) -> bool
@@ -51,82 +26,4 @@ pub fn sound_on(before: bool, of: Record, clock: u64) -> bool
         return sound(of, clock);
     }
     false
-}
-
-// Where the event's task stands in a row of this length.
-pub fn seat_of(event: Event, count: usize) -> usize
-    ensures { λ r. ⌜ r ≡ seatOf (event .task) count ⌝ }
-{
-    seat(event.task, count)
-}
-
-// The answer once the row is settled: the chosen job's class is its record's.
-pub fn told_of(best: Best, of: Record) -> Answer
-    ensures { λ r. ⌜ r ≡ toldOf best (of .class) ⌝ }
-{
-    told(best, of.class)
-}
-
-// The ruling on a row that is not sound; its record is none of the row's.
-pub fn unsound_ruling() -> Ruling
-    ensures { λ r. ⌜ r ≡ unsound ⌝ }
-{
-    Ruling {
-        refusal: 15,
-        after: Record {
-            task: Task {
-                c: 0,
-                d: 0,
-                t: 0,
-                m: 0,
-                k: 0,
-            },
-            level: 0,
-            run: 0,
-            live: false,
-            class: 0,
-            last: 0,
-            released: 0,
-            met: 0,
-            missed: 0,
-            marks: 0,
-            broken: 0,
-        },
-    }
-}
-
-// The clock becomes the event's time.
-pub fn accepted_turn(answer: Answer, event: Event) -> Turn
-    ensures { λ r. ⌜ r ≡ acceptedTurn answer event ⌝ }
-{
-    Turn {
-        answer: answer,
-        clock: event.time,
-    }
-}
-
-// The clock stays.
-pub fn refused_turn(ruling: Ruling, clock: u64) -> Turn
-    ensures { λ r. ⌜ r ≡ refusedTurn ruling clock ⌝ }
-{
-    Turn {
-        answer: Answer::Refused(ruling.refusal),
-        clock: clock,
-    }
-}
-
-// The row behind the count comes back to its state.
-pub fn placed(turn: Turn, count: usize, records: [Record; 16]) -> Applied
-    ensures { λ r. ⌜ r ≡ placedBy turn count records ⌝ }
-{
-    let answer = turn.answer;
-    let state = State {
-        count: count,
-        clock: turn.clock,
-        records: records,
-    };
-    Applied {
-        answer: answer,
-        state: state,
-    }
 }

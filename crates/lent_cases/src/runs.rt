@@ -6,7 +6,7 @@ use super::events_of::table;
 use super::same::both;
 use engine::Answer;
 use engine::apply::apply;
-use lent::apply::apply_of;
+use in_place::apply::apply_of;
 use states::State;
 use states::fresh::start;
 ghost use Prim.Native.Nat.{_<_, _≤_};

@@ -2,7 +2,7 @@
 use engine::Answer;
 use events::Reading;
 use events::read;
-use lent::apply::apply_of;
+use in_place::apply::apply_of;
 use states::State;
 ghost use mathlib.Core.Path.{_≡_};
 ghost use Rattle.logs.specs.Log.{eventsOf};

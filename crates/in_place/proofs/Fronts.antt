@@ -29,12 +29,12 @@ use Rattle.engine.specs.Apply.{toldOf, answerOf, moved, accepted, refused, acte
 use Rattle.rulings.specs.Ruling.{seatOf, ruled}
 use Rattle.engine.proofs.Frame.{count-stays}
 use Rattle.engine.proofs.Rulings.{Decides, refused-by, accepted-by, decided}
-use Rattle.lent.specs.declared.Turn.{Turn}
+use Rattle.in_place.specs.declared.Turn.{Turn}
 use Rattle.lent.specs.Row.{stateOf, rowOf}
-use Rattle.lent.specs.Turns.{placedBy}
+use Rattle.in_place.specs.Turns.{placedBy}
 use Rattle.lent.proofs.Choices.{best-front}
 use Rattle.rulings.proofs.Prompt.{seat-below}
-use Rattle.lent.proofs.Turns.{Said}
+use Rattle.in_place.proofs.Turns.{Said}
 
 -- ---- the front and the rest of a row that is stored to
 

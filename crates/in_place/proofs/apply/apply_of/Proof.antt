@@ -1,8 +1,8 @@
 -- `apply_of` meets its contract: a state that counts more than 16 tasks is not sound, and any other has a place for each task that it counts.
 use borrow.Author.Needs.{needs}
-use Rattle.lent.proofs.Fronts.{over-most}
-use Rattle.lent.proofs.apply.apply_of.Statement.{statement}
-use Rattle.lent.proofs.apply.apply_of.Tie as tie
+use Rattle.in_place.proofs.Fronts.{over-most}
+use Rattle.in_place.proofs.apply.apply_of.Statement.{statement}
+use Rattle.in_place.proofs.apply.apply_of.Tie as tie
 
 returns : tie.Need-returns
 returns c = over-most _ _ (c .if1 .taken)

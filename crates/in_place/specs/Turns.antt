@@ -15,8 +15,8 @@ use Rattle.engine.specs.declared.Applied.{Applied}
 use Rattle.rulings.specs.declared.Ruling.{Ruling}
 use Rattle.engine.specs.Apply.{toldOf}
 use Rattle.rulings.specs.Ruling.{seatOf, kept, ruled}
-use Rattle.lent.specs.declared.Turn.{Turn}
+use Rattle.in_place.specs.declared.Turn.{Turn}
 use Rattle.lent.specs.Row.{stateOf}
 
 abbrev pub unsound : Ruling
 unsound = kept 15 noRecord

@@ -53,7 +53,7 @@ use Rattle.states.specs.Choice.{none, better}
 use Rattle.engine.specs.declared.Answer.{Answer}
 use Rattle.engine.specs.Apply.{toldOf}
 use Rattle.engine.proofs.Settled.{Settling, settling-none}
-use Rattle.lent.specs.Turns.{seatIn, storedRow, settledRow, rowAnswer}
+use Rattle.in_place.specs.Turns.{seatIn, storedRow, settledRow, rowAnswer}
 use Rattle.events.proofs.Event as E
 use Rattle.events.proofs.Event.Laws as E′
 use Rattle.records.proofs.Record as R
@@ -62,31 +62,32 @@ use Rattle.states.proofs.Best as B
 use Rattle.states.proofs.Best.Laws as B′
 use Rattle.engine.proofs.Answer as S
 use Rattle.engine.proofs.Answer.Laws as S′
-use Rattle.lent.proofs.Called.{record-val, record-vals, event-val, event-vals, best-val, Expire, NoBest, BetterOf, SeatOf, ToldOf, to-expire, to-no-best, to-better-of, to-seat-of, to-told-of, goes-expire, goes-no-best, goes-better-of, goes-seat-of, goes-told-of, expire-gives, no-best-gives, better-of-gives, seat-of-gives, told-of-gives}
+use Rattle.lent.proofs.Called.{record-val, record-vals, NoBest, BetterOf, to-no-best, to-better-of, goes-no-best, goes-better-of, no-best-gives, better-of-gives}
+use Rattle.in_place.proofs.Called.{event-val, event-vals, best-val, Expire, SeatOf, ToldOf, to-expire, to-seat-of, to-told-of, goes-expire, goes-seat-of, goes-told-of, expire-gives, seat-of-gives, told-of-gives}
 use Rattle.lent.proofs.Plain.{calls-plain}
 use Rattle.rulings.proofs.Prompt.{seat-below}
-use Rattle.lent.proofs.Turns.{settles-on, settled-at, settled-tells}
+use Rattle.in_place.proofs.Turns.{settles-on, settled-at, settled-tells}
 use Rattle.lent.proofs.While.{tests, scaled}
 use Rattle.records.proofs.opening.expire.Symbol as expire-def
 use Rattle.records.proofs.opening.expire.Symbol.{name as #records·opening·expire}
 use Rattle.records.proofs.opening.expire.Met as expire-thm
 use Rattle.states.proofs.choice.better_of.Symbol as better-of-def
 use Rattle.states.proofs.choice.better_of.Symbol.{name as #states·choice·better-of}
 use Rattle.states.proofs.choice.better_of.Met as better-of-thm
-use Rattle.lent.proofs.steps.no_best.Symbol as no-best-def
-use Rattle.lent.proofs.steps.no_best.Symbol.{name as #lent·steps·no-best}
-use Rattle.lent.proofs.steps.no_best.Met as no-best-thm
-use Rattle.lent.proofs.steps.seat_of.Symbol as seat-of-def
-use Rattle.lent.proofs.steps.seat_of.Symbol.{name as #lent·steps·seat-of}
-use Rattle.lent.proofs.steps.seat_of.Met as seat-of-thm
-use Rattle.lent.proofs.steps.told_of.Symbol as told-of-def
-use Rattle.lent.proofs.steps.told_of.Symbol.{name as #lent·steps·told-of}
-use Rattle.lent.proofs.steps.told_of.Met as told-of-thm
-use Rattle.lent.proofs.apply.settle_in.Key.{name as #lent·apply·settle-in}
-use Rattle.lent.proofs.apply.settle_in as settle-in
-use Rattle.lent.proofs.apply.settle_in.Statement as stated
-use Rattle.lent.proofs.apply.settle_in.Code as code
-use Rattle.lent.proofs.apply.settle_in.Code.Mir as body
+use Rattle.lent.proofs.choice.no_best.Symbol as no-best-def
+use Rattle.lent.proofs.choice.no_best.Symbol.{name as #lent·choice·no-best}
+use Rattle.lent.proofs.choice.no_best.Met as no-best-thm
+use Rattle.in_place.proofs.steps.seat_of.Symbol as seat-of-def
+use Rattle.in_place.proofs.steps.seat_of.Symbol.{name as #in-place·steps·seat-of}
+use Rattle.in_place.proofs.steps.seat_of.Met as seat-of-thm
+use Rattle.in_place.proofs.steps.told_of.Symbol as told-of-def
+use Rattle.in_place.proofs.steps.told_of.Symbol.{name as #in-place·steps·told-of}
+use Rattle.in_place.proofs.steps.told_of.Met as told-of-thm
+use Rattle.in_place.proofs.apply.settle_in.Key.{name as #in-place·apply·settle-in}
+use Rattle.in_place.proofs.apply.settle_in as settle-in
+use Rattle.in_place.proofs.apply.settle_in.Statement as stated
+use Rattle.in_place.proofs.apply.settle_in.Code as code
+use Rattle.in_place.proofs.apply.settle_in.Code.Mir as body
 
 abbrev stayed : Stays (settle-in.ended .signature .params) (settle-in.ended .kept)
 stayed = (stay-slice (0 ∷ []) tt (plain (λ _. R.the-row)), (stay-dropped (plain (λ _. E.the-row)) yes, (stay-dropped (plain (λ _. R.the-row)) yes, tt)))
@@ -109,10 +110,10 @@ module _ {M : Type 1} (𝓤 : URA M) (H : Heap 𝓤) (A : Atoms 𝓤) (at-mem : 
   -- the callees meet their contracts
   record Known : Type 2 where
     pub expire : Triple 𝓤 (𝓣 .C #records·opening·expire) (Expire 𝓤 H A at-mem run)
-    pub no-best : Triple 𝓤 (𝓣 .C #lent·steps·no-best) (NoBest 𝓤 H A at-mem run)
+    pub no-best : Triple 𝓤 (𝓣 .C #lent·choice·no-best) (NoBest 𝓤 H A at-mem run)
     pub better-of : Triple 𝓤 (𝓣 .C #states·choice·better-of) (BetterOf 𝓤 H A at-mem run)
-    pub seat-of : Triple 𝓤 (𝓣 .C #lent·steps·seat-of) (SeatOf 𝓤 H A at-mem run)
-    pub told-of : Triple 𝓤 (𝓣 .C #lent·steps·told-of) (ToldOf 𝓤 H A at-mem run)
+    pub seat-of : Triple 𝓤 (𝓣 .C #in-place·steps·seat-of) (SeatOf 𝓤 H A at-mem run)
+    pub told-of : Triple 𝓤 (𝓣 .C #in-place·steps·told-of) (ToldOf 𝓤 H A at-mem run)
 
 module _ {M : Type 1} (𝓤 : URA M) (H : Heap 𝓤) (A : Atoms 𝓤) (W : Given 𝓤 H A) (at-mem : Memory → SProp 𝓤) (run : Routine → Fun 𝓤) (κ : Lft) (q : Share) (b o : ℕ) (γ : GName) (ys : List Record) (e : Event) (x : Record)
     (room : Room R.the-row (length ys)) (e-is : Is E.the-row e (event-vals e)) (x-is : Is R.the-row x (record-vals x)) (ready : 0 < length ys) where
@@ -347,13 +348,13 @@ pub settle-in-spec : {M : Type 1} → stated.statement M
 unfolding code.routine tablesOf
 settle-in-spec 𝓤 H 𝓜 𝓖 𝓡 =
     entered 𝓤 H (tripleOf 𝓤 H (𝓖 .A) settle-in.signature (settle-in.spec 𝓤 H (𝓖 .A) (𝓜 .mem) (𝓡 .run)))
-    (tables 𝓤 H 𝓜 𝓡 code.env .C) (tables 𝓤 H 𝓜 𝓡 code.env .Λ) #lent·apply·settle-in code.function (code.unfolded 𝓤 H 𝓜 𝓡)
+    (tables 𝓤 H 𝓜 𝓡 code.env .C) (tables 𝓤 H 𝓜 𝓡 code.env .Λ) #in-place·apply·settle-in code.function (code.unfolded 𝓤 H 𝓜 𝓡)
     (settle-in-meets 𝓤 H (𝓖 .A) (givenOf 𝓤 H 𝓜 𝓖) (𝓜 .mem) (𝓡 .run) (tablesOf 𝓤 H 𝓜 (tables 𝓤 H 𝓜 𝓡 code.env))
     (record {
       expire = cited 𝓤 H (Expire 𝓤 H (𝓖 .A) (𝓜 .mem) (𝓡 .run)) 𝓜 𝓡 code.env #records·opening·expire expire-def.routine code.calls-records·opening·expire (expire-thm.met 𝓤 H 𝓜 𝓖 𝓡);
-      no-best = cited 𝓤 H (NoBest 𝓤 H (𝓖 .A) (𝓜 .mem) (𝓡 .run)) 𝓜 𝓡 code.env #lent·steps·no-best no-best-def.routine code.calls-lent·steps·no-best (no-best-thm.met 𝓤 H 𝓜 𝓖 𝓡);
+      no-best = cited 𝓤 H (NoBest 𝓤 H (𝓖 .A) (𝓜 .mem) (𝓡 .run)) 𝓜 𝓡 code.env #lent·choice·no-best no-best-def.routine code.calls-lent·choice·no-best (no-best-thm.met 𝓤 H 𝓜 𝓖 𝓡);
       better-of = cited 𝓤 H (BetterOf 𝓤 H (𝓖 .A) (𝓜 .mem) (𝓡 .run)) 𝓜 𝓡 code.env #states·choice·better-of better-of-def.routine code.calls-states·choice·better-of (better-of-thm.met 𝓤 H 𝓜 𝓖 𝓡);
-      seat-of = cited 𝓤 H (SeatOf 𝓤 H (𝓖 .A) (𝓜 .mem) (𝓡 .run)) 𝓜 𝓡 code.env #lent·steps·seat-of seat-of-def.routine code.calls-lent·steps·seat-of (seat-of-thm.met 𝓤 H 𝓜 𝓖 𝓡);
-      told-of = cited 𝓤 H (ToldOf 𝓤 H (𝓖 .A) (𝓜 .mem) (𝓡 .run)) 𝓜 𝓡 code.env #lent·steps·told-of told-of-def.routine code.calls-lent·steps·told-of (told-of-thm.met 𝓤 H 𝓜 𝓖 𝓡);
+      seat-of = cited 𝓤 H (SeatOf 𝓤 H (𝓖 .A) (𝓜 .mem) (𝓡 .run)) 𝓜 𝓡 code.env #in-place·steps·seat-of seat-of-def.routine code.calls-in-place·steps·seat-of (seat-of-thm.met 𝓤 H 𝓜 𝓖 𝓡);
+      told-of = cited 𝓤 H (ToldOf 𝓤 H (𝓖 .A) (𝓜 .mem) (𝓡 .run)) 𝓜 𝓡 code.env #in-place·steps·told-of told-of-def.routine code.calls-in-place·steps·told-of (told-of-thm.met 𝓤 H 𝓜 𝓖 𝓡);
     }
     ))

@@ -1,8 +1,6 @@
 // Applying an event in place, over a lent row and a clock: no copy of the row is made, and a refused event stores nothing.
 use super::Turn;
-use super::sound::is_sound_in;
 use super::steps::accepted_turn;
-use super::steps::no_best;
 use super::steps::placed;
 use super::steps::refused_turn;
 use super::steps::seat_of;
@@ -11,6 +9,8 @@ use super::steps::unsound_ruling;
 use engine::Answer;
 use engine::Applied;
 use events::Event;
+use lent::choice::no_best;
+use lent::sound::is_sound_in;
 use records::Record;
 use records::opening::expire;
 use rulings::Ruling;
@@ -21,8 +21,8 @@ ghost use mathlib.Core.Path.{_≡_};
 ghost use Prim.Native.Nat.{_≤_, _<_};
 ghost use lib.ListN.{length};
 ghost use Rattle.engine.specs.Apply.{applied};
 ghost use Rattle.lent.specs.Row.{stateOf};
-ghost use Rattle.lent.specs.Turns.{ruledRow, settledRow, rowAnswer};
+ghost use Rattle.in_place.specs.Turns.{ruledRow, settledRow, rowAnswer};
 
 // 15 before all, then the ruling on the event's own task.
 fn rule_in(row: &[Record], clock: u64, event: Event) -> Ruling
