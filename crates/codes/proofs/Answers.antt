@@ -15,22 +15,22 @@ use Rattle.logs.specs.Log.{eventsIn, eventsOf}
 use Rattle.events.proofs.Rules.{judge-0}
 use Rattle.logs.proofs.Records.{by-records}
 use Rattle.records.specs.Closing.{closed}
-use Rattle.records.specs.Opening.{expired}
+use Rattle.jobs.specs.Opening.{expired}
 use Rattle.states.specs.declared.State.{State}
 use Rattle.states.specs.State.{recordAt}
 use Rattle.states.specs.Sound.{limit, StateSound}
 use Rattle.states.specs.Choice.{chosen}
 use Rattle.states.proofs.Least.{found-below}
 use Rattle.states.proofs.Sounding.{state-tells}
-use Rattle.engine.specs.declared.Answer.{Answer}
-use Rattle.engine.specs.declared.Answer.the-variants as A
-use Rattle.engine.specs.declared.Applied.{Applied}
+use Rattle.effects.specs.declared.Answer.{Answer}
+use Rattle.effects.specs.declared.Answer.the-variants as A
+use Rattle.effects.specs.declared.Applied.{Applied}
 use Rattle.rulings.specs.Steps.{tooSoon, reopened, isOpen}
-use Rattle.engine.specs.Steps.{expiredAll}
-use Rattle.engine.specs.Apply.{answerOf, moved, ticked, releasedAt, completedAt, byKind, timed, acted, applied}
-use Rattle.engine.specs.Log.{standing, ranOver, ran}
-use Rattle.engine.proofs.Frame.{count-stays}
-use Rattle.engine.proofs.Kept.{applied-sound}
+use Rattle.effects.specs.Steps.{expiredAll}
+use Rattle.effects.specs.Apply.{answerOf, moved, ticked, releasedAt, completedAt, byKind, timed, acted, applied}
+use Rattle.effects.specs.Log.{standing, ranOver, ran}
+use Rattle.effects.proofs.Frame.{count-stays}
+use Rattle.effects.proofs.Kept.{applied-sound}
 use Rattle.codes.specs.Code.{Said}
 
 answer-said : (s : State) → Said (s .count) (answerOf s)

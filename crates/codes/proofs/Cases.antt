@@ -12,7 +12,7 @@ use Rattle.events.specs.declared.Reading.{Reading}
 use Rattle.events.specs.declared.Reading.the-variants as R
 use Rattle.events.specs.Record.{readRecord}
 use Rattle.logs.specs.Log.{restOf}
-use Rattle.engine.specs.Log.{ran}
+use Rattle.effects.specs.Log.{ran}
 use Rattle.codes.specs.Code.{refused, too-long, ofAnswer, afterReading, logCase, caseOf}
 
 module _ (s : State) (log : List ℕ) where

@@ -22,10 +22,10 @@ use Rattle.logs.proofs.Rests.{rest-silent, rest-end}
 use Rattle.states.specs.declared.State.{State}
 use Rattle.states.specs.State.{freshState}
 use Rattle.states.proofs.Sounding.{state-tells}
-use Rattle.engine.specs.declared.Answer.the-variants as A
-use Rattle.engine.specs.declared.Applied.{Applied}
-use Rattle.engine.specs.Apply.{applied}
-use Rattle.engine.specs.Log.{standing, ranOver, ran}
+use Rattle.effects.specs.declared.Answer.the-variants as A
+use Rattle.effects.specs.declared.Applied.{Applied}
+use Rattle.effects.specs.Apply.{applied}
+use Rattle.effects.specs.Log.{standing, ranOver, ran}
 use Rattle.codes.specs.Code.{Case, none, codeFor, ofAnswer, caseOf, codeOf}
 use Rattle.codes.specs.Given.{Begun, Whole, stateAfter, Given, long, bad-table, bad-record, empty, last}
 use Rattle.codes.proofs.Starts.{begins-sound, begins-idle}

@@ -17,9 +17,9 @@ use Rattle.events.specs.Record.{readRecord}
 use Rattle.logs.specs.Log.{restOf, eventsOf}
 use Rattle.events.proofs.ReadOne.{read-end}
 use Rattle.logs.proofs.Rests.{rest-refused}
-use Rattle.engine.specs.declared.Answer.{Answer}
-use Rattle.engine.specs.declared.Answer.the-variants as A
-use Rattle.engine.specs.Apply.{applied}
+use Rattle.effects.specs.declared.Answer.{Answer}
+use Rattle.effects.specs.declared.Answer.the-variants as A
+use Rattle.effects.specs.Apply.{applied}
 use Rattle.codes.specs.Code.{Case, chosen, none, refused, too-long, Fits, codeFor, caseFor, Said, ofAnswer, caseOf, codeOf}
 use Rattle.codes.specs.Given.{Begun, stateAfter, Given, long, bad-table, bad-record, empty, last, Source, of-table, of-record, of-event}
 use Rattle.codes.proofs.Answers.{ran-said, said-16}

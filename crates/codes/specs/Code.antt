@@ -13,9 +13,9 @@ use Rattle.events.specs.declared.Reading.{Reading}
 use Rattle.events.specs.declared.Reading.the-variants as R
 use Rattle.events.specs.Record.{readRecord}
 use Rattle.logs.specs.Log.{restOf}
-use Rattle.engine.specs.declared.Answer.{Answer}
-use Rattle.engine.specs.declared.Answer.the-variants as A
-use Rattle.engine.specs.Log.{ran}
+use Rattle.effects.specs.declared.Answer.{Answer}
+use Rattle.effects.specs.declared.Answer.the-variants as A
+use Rattle.effects.specs.Log.{ran}
 
 -- the answers of the rig
 pub data Case : Type 0 where

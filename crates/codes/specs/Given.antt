@@ -11,9 +11,9 @@ use Rattle.events.specs.declared.Event.{Event}
 use Rattle.events.specs.declared.Reading.the-variants as R
 use Rattle.events.specs.Record.{readRecord}
 use Rattle.logs.specs.Log.{restOf, eventsOf}
-use Rattle.engine.specs.declared.Answer.the-variants as A
-use Rattle.engine.specs.Apply.{applied}
-use Rattle.engine.specs.Log.{standing, ranOver}
+use Rattle.effects.specs.declared.Answer.the-variants as A
+use Rattle.effects.specs.Apply.{applied}
+use Rattle.effects.specs.Log.{standing, ranOver}
 use Rattle.codes.specs.Code.{Case, none, refused, too-long, ofAnswer}
 
 -- the log is within the limit and the table is read

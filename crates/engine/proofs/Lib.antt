@@ -1,9 +1,3 @@
--- What is shown of the engine beside the functions' contracts.
-pub mod Exactly
-pub mod Frame
-pub mod Kept
-pub mod Places
+-- What `act` goes by: the ruling decides, and the row is settled position by position.
 pub mod Rulings
-pub mod Runs
 pub mod Settled
-pub mod Worked

@@ -14,18 +14,18 @@ use Rattle.events.specs.Event.{faultOf}
 use Rattle.events.proofs.Rules.{judge-0}
 use Rattle.records.specs.declared.Record.{Record}
 use Rattle.records.specs.Closing.{closed}
-use Rattle.records.specs.Opening.{late, expired, noRecord}
+use Rattle.jobs.specs.Opening.{late, expired, noRecord}
 use Rattle.states.specs.declared.State.{State}
 use Rattle.states.specs.State.{recordAt}
 use Rattle.states.specs.Sound.{limit, StateSound}
-use Rattle.engine.specs.declared.Applied.{Applied}
+use Rattle.effects.specs.declared.Applied.{Applied}
 use Rattle.rulings.specs.declared.Ruling.{Ruling}
 use Rattle.rulings.specs.Steps.{tooSoon, reopened, isOpen}
-use Rattle.engine.specs.Steps.{expiredAll}
-use Rattle.engine.specs.Apply.{accepted, refused, ticked, releasedAt, completedAt, byKind, timed, acted}
+use Rattle.effects.specs.Steps.{expiredAll}
+use Rattle.effects.specs.Apply.{accepted, refused, ticked, releasedAt, completedAt, byKind, timed, acted}
 use Rattle.rulings.specs.Ruling.{seatOf, barOf, taken, kept, releaseOf, completionOf, ownOf, ruled}
 use Rattle.rulings.proofs.Prompt.{closed-prompt, expired-prompt, reopened-prompt}
-use Rattle.engine.proofs.Places.{places, expired-at}
+use Rattle.effects.proofs.Places.{places, expired-at}
 
 module _ (s : State) (e : Event) where
   abbrev t : ℕ

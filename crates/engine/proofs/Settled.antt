@@ -13,15 +13,15 @@ use Rattle.laws.specs.Stores.{filled}
 use Rattle.laws.proofs.Stores.{length-filled, filled-below, filled-past}
 use Rattle.records.specs.declared.Record.{Record}
 use Rattle.records.specs.Closing.{closed}
-use Rattle.records.specs.Opening.{late, expired, noRecord}
+use Rattle.jobs.specs.Opening.{late, expired, noRecord}
 use Rattle.states.specs.declared.Best.{Best}
 use Rattle.states.specs.declared.State.{State}
 use Rattle.states.specs.Sound.{StateSound}
 use Rattle.states.specs.Choice.{none, better, bestTo}
 use Rattle.states.proofs.Least.{best-stored}
-use Rattle.engine.specs.Steps.{expiredAll}
-use Rattle.engine.specs.Apply.{toldOf, moved, accepted}
-use Rattle.engine.proofs.Places.{places}
+use Rattle.effects.specs.Steps.{expiredAll}
+use Rattle.effects.specs.Apply.{toldOf, moved, accepted}
+use Rattle.effects.proofs.Places.{places}
 
 module _ (l : List Record) (t : ℕ) where
   -- every late record of the first n closed

@@ -1,12 +1,12 @@
 // Acting on a sound state, in place: one state is held, so that an event copies nothing but its own task's record.
-use super::Answer;
-use super::Applied;
 use super::telling::told;
+use effects::Answer;
+use effects::Applied;
 use events::Event;
 use events::Reading;
 use events::read;
+use jobs::opening::is_late;
 use records::closing::close;
-use records::opening::is_late;
 use rulings::judging::rule;
 use rulings::judging::seat;
 use states::Best;
@@ -15,8 +15,8 @@ use states::choice::better_of;
 ghost use mathlib.Core.Path.{_≡_};
 ghost use Rattle.logs.specs.Log.{eventsOf};
 ghost use Rattle.states.specs.Sound.{StateSound};
-ghost use Rattle.engine.specs.Apply.{refused, applied};
-ghost use Rattle.engine.specs.Log.{ranOver};
+ghost use Rattle.effects.specs.Apply.{refused, applied};
+ghost use Rattle.effects.specs.Log.{ranOver};
 
 pub fn refuse(state: State, number: u8) -> Applied
     ensures { λ r. ⌜ r ≡ refused state number ⌝ }

@@ -1,17 +1,16 @@
 // Applying a log: soundness is tested once, since every event keeps it.
-use super::Applied;
 use super::acting::act;
 use super::acting::refuse;
 use super::telling::told;
+use effects::Applied;
 use events::Reading;
 use events::read;
 use states::State;
 use states::choice::choose;
 use states::sound::is_sound;
 ghost use mathlib.Core.Path.{_≡_};
-ghost use mathlib.Core.Bool.{true};
 ghost use Rattle.states.specs.Sound.{StateSound};
-ghost use Rattle.engine.specs.Log.{standing, ran};
+ghost use Rattle.effects.specs.Log.{standing, ran};
 
 // The choice as it stands, where no event has come.
 fn stand(state: State) -> Applied

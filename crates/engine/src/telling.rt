@@ -1,8 +1,8 @@
 // The answer after an accepted event.
-use super::Answer;
+use effects::Answer;
 use states::Best;
 ghost use mathlib.Core.Path.{_≡_};
-ghost use Rattle.engine.specs.Apply.{toldOf};
+ghost use Rattle.effects.specs.Apply.{toldOf};
 
 pub fn told(best: Best, class: u32) -> Answer
     ensures { λ r. ⌜ r ≡ toldOf best class ⌝ }

@@ -1,8 +1,8 @@
 -- Document 01, "The listing": what the lines of the events say, and those in place of them. Every line ends in a newline.
 use Prim.Native.Nat.{ℕ}
 use mathlib.Core.List.{List, _++_}
-use Rattle.engine.specs.declared.Answer.{Answer}
-use Rattle.engine.specs.declared.Answer.the-variants.{Run, Idle, Refused}
+use Rattle.effects.specs.declared.Answer.{Answer}
+use Rattle.effects.specs.declared.Answer.the-variants.{Run, Idle, Refused}
 use Rattle.wording.specs.Fields.{fieldOf}
 use Rattle.wording.specs.Words.{inputTooLongWord, tableRefusedWord, eventWord, stopWord, atWord, runWord, classWord, idleWord, refusedWord, lineEnd}
 

@@ -1,10 +1,10 @@
 // The lines of the events, and those that say why there are none, put into the lent bytes at a place; the answer is the place behind it.
-use engine::Answer;
+use effects::Answer;
 use texts::field;
 use texts::words;
 ghost use mathlib.Core.Path.{_≡_};
 ghost use Rattle.texts.specs.Sheet.{sheet, puts};
-ghost use Rattle.engine.specs.declared.Answer.the-variants.{Run};
+ghost use Rattle.effects.specs.declared.Answer.the-variants.{Run};
 ghost use Rattle.event_lines.specs.Lines.{tooLong, refusedLine, answerText, eventLine, stopLine};
 
 pub fn too_long(out: &mut [u8], at: usize) -> usize

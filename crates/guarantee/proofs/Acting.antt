@@ -13,10 +13,10 @@ use Rattle.events.specs.declared.Event.{Event}
 use Rattle.tables.specs.declared.Task.{Task}
 use Rattle.records.specs.declared.Record.{Record}
 use Rattle.records.specs.Closing.{closed}
-use Rattle.records.specs.Opening.{expired, opened}
+use Rattle.jobs.specs.Opening.{expired, opened}
 use Rattle.soundness.proofs.Kept.{end}
 use Rattle.rulings.specs.Steps.{tooSoon, reopened}
-use Rattle.engine.proofs.Kept.{spaced-by}
+use Rattle.effects.proofs.Kept.{spaced-by}
 use Rattle.guarantee.specs.History.{Job, closedJob}
 use Rattle.guarantee.proofs.Steps.{closed-idle, cleared, cleared-open, cleared-none, cleared-same, cleared-idle, Expired, over, stays, expiry, expired-same, expired-open}
 use Rattle.guarantee.proofs.Closes.{jobsWith, closes-none, closes-stays, closes-idle, closes-next, other-kind, other-task, completed}

@@ -3,7 +3,7 @@ use mathlib.Core.Path.{_≡_, refl}
 use mathlib.Core.List.{List, [], _∷_}
 use Rattle.events.specs.declared.Event.{Event}
 use Rattle.states.specs.declared.State.{State}
-use Rattle.engine.specs.Apply.{applied}
+use Rattle.effects.specs.Apply.{applied}
 use Rattle.guarantee.specs.History.{stateAfter}
 
 abbrev pub inOrder : State → List Event → State

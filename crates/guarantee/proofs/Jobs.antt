@@ -17,7 +17,7 @@ use Rattle.tables.proofs.Exactly.{judged-accepted}
 use Rattle.tables.proofs.Ruling.{fault-none}
 use Rattle.records.specs.declared.Record.{Record}
 use Rattle.records.specs.Closing.{closed}
-use Rattle.records.specs.Opening.{expired, opened}
+use Rattle.jobs.specs.Opening.{expired, opened}
 use Rattle.records.specs.Window.{windowOf}
 use Rattle.soundness.specs.Sound.{Sound}
 use Rattle.soundness.proofs.Kept.{end}
@@ -32,7 +32,7 @@ use Rattle.windows.proofs.Marks.{window-is}
 use Rattle.windows.proofs.Broken.{broken-is}
 use Rattle.demands.specs.Above.{taskAt}
 use Rattle.rulings.specs.Steps.{reopened}
-use Rattle.engine.specs.Apply.{applied}
+use Rattle.effects.specs.Apply.{applied}
 use Rattle.guarantee.specs.History.{Job, stateAfter, recordAfter, closes, closedJob, jobsOf, outcomesOf}
 use Rattle.guarantee.proofs.Steps.{closed-same, closed-idle, cleared, cleared-open, cleared-none, cleared-same, Expired, over, stays, expiry, expired-same, expired-open}
 use Rattle.guarantee.proofs.Closes.{jobsWith, closes-none, closes-stays, closes-idle, closes-next}

@@ -18,7 +18,7 @@ use Rattle.tables.specs.declared.Answer.the-variants.{Accepted}
 use Rattle.tables.specs.Rules.{taskFault, noTask}
 use Rattle.tables.specs.Judging.{firstFault, judged}
 use Rattle.records.specs.Closing.{closed}
-use Rattle.records.specs.Opening.{expired, opened}
+use Rattle.jobs.specs.Opening.{expired, opened}
 use Rattle.records.specs.Window.{windowOf}
 use Rattle.soundness.specs.Sound.{soundHolds}
 use Rattle.states.specs.State.{freshState}
@@ -27,7 +27,7 @@ use Rattle.states.specs.Choice.{bestTo}
 use Rattle.response.specs.Fits.{firstFit}
 use Rattle.demands.specs.Demand.{demand}
 use Rattle.bounds.specs.Asked.{boundCell, allAnswer}
-use Rattle.engine.specs.Apply.{ticked, releasedAt, completedAt, byKind, timed, acted, applied}
+use Rattle.effects.specs.Apply.{ticked, releasedAt, completedAt, byKind, timed, acted, applied}
 use Rattle.guarantee.specs.History.{Job, stateAfter, recordAfter, jobsOf}
 use Rattle.guarantee.specs.ChosenTime.{standing, chosenTime}
 use Rattle.guarantee.specs.Premise.{Premise}

@@ -20,7 +20,7 @@ use Rattle.tables.specs.Rules.{taskFault, noTask}
 use Rattle.tables.specs.Judging.{firstFault, judged}
 use Rattle.records.specs.declared.Record.{Record}
 use Rattle.records.specs.Closing.{closed}
-use Rattle.records.specs.Opening.{fresh, expired, opened, noRecord}
+use Rattle.jobs.specs.Opening.{fresh, expired, opened, noRecord}
 use Rattle.records.specs.Window.{windowOf}
 use Rattle.soundness.specs.Sound.{soundHolds}
 use Rattle.states.specs.declared.State.{State}
@@ -31,7 +31,7 @@ use Rattle.response.specs.Fits.{firstFit}
 use Rattle.demands.specs.Demand.{demand}
 use Rattle.bounds.specs.declared.Bound.the-variants as Bound
 use Rattle.bounds.specs.Asked.{allAnswer, oneAnswer}
-use Rattle.engine.specs.Apply.{ticked, releasedAt, completedAt, byKind, timed, acted, applied}
+use Rattle.effects.specs.Apply.{ticked, releasedAt, completedAt, byKind, timed, acted, applied}
 use Rattle.guarantee.specs.History.{Job, stateAfter, recordAfter, jobsOf}
 use Rattle.guarantee.specs.ChosenTime.{standing, chosenTime}
 use Rattle.guarantee.specs.Premise.{Premise}

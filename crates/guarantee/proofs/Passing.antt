@@ -9,7 +9,7 @@ use native.Mathlib.Omega.{arith}
 use Rattle.laws.proofs.Tests.{true-not-false, both-hold}
 use Rattle.tables.specs.declared.Task.{Task}
 use Rattle.records.specs.declared.Record.{Record}
-use Rattle.records.specs.Opening.{expired}
+use Rattle.jobs.specs.Opening.{expired}
 use Rattle.guarantee.proofs.Steps.{Expired, over, stays, expiry, expired-open, expired-in-time}
 use Rattle.guarantee.proofs.Busy.{After, both-true, lead, rebase, advance}
 use Rattle.guarantee.proofs.Required.{isDue, due-intro, due-live, due-class, above-required}

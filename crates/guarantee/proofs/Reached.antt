@@ -10,17 +10,17 @@ use Rattle.events.specs.declared.Event.{Event}
 use Rattle.tables.specs.declared.Table.{Table}
 use Rattle.tables.specs.declared.Answer.the-variants.{Accepted}
 use Rattle.tables.specs.Judging.{judged}
-use Rattle.records.specs.Opening.{fresh, noRecord}
+use Rattle.jobs.specs.Opening.{fresh, noRecord}
 use Rattle.states.specs.declared.State.{State}
 use Rattle.states.specs.State.{recordAt, freshState}
 use Rattle.states.specs.Sound.{StateSound}
 use Rattle.states.proofs.Starting.{fresh-at, start-sound}
 use Rattle.demands.specs.Above.{taskAt}
-use Rattle.engine.specs.declared.Applied.{Applied}
-use Rattle.engine.specs.Apply.{acted, applied}
-use Rattle.engine.proofs.Frame.{count-stays, past-stays, row-stays}
-use Rattle.engine.proofs.Kept.{applied-sound}
-use Rattle.engine.proofs.Places.{expired-length}
+use Rattle.effects.specs.declared.Applied.{Applied}
+use Rattle.effects.specs.Apply.{acted, applied}
+use Rattle.effects.proofs.Frame.{count-stays, past-stays, row-stays}
+use Rattle.effects.proofs.Kept.{applied-sound}
+use Rattle.effects.proofs.Places.{expired-length}
 use Rattle.guarantee.specs.History.{stateAfter}
 use Rattle.guarantee.proofs.Taken.{Took, refusal, tick, release, completion, acts, took}
 

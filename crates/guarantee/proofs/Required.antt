@@ -14,7 +14,7 @@ use Rattle.tables.specs.declared.Task.{Task}
 use Rattle.tables.specs.Rules.{taskFault}
 use Rattle.records.specs.declared.Record.{Record}
 use Rattle.records.specs.Closing.{closed}
-use Rattle.records.specs.Opening.{fresh, opened}
+use Rattle.jobs.specs.Opening.{fresh, opened}
 use Rattle.soundness.specs.Sound.{Sound}
 use Rattle.soundness.proofs.Kept.{end, fresh-sound, closed-sound, opened-sound, later-sound}
 use Rattle.windows.specs.History.{rungOf}

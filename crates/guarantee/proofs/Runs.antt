@@ -24,16 +24,16 @@ use Rattle.states.specs.declared.State.{State}
 use Rattle.states.specs.declared.Best.{Best}
 use Rattle.states.specs.State.{recordAt, freshState}
 use Rattle.states.specs.Choice.{chosen}
-use Rattle.records.proofs.Ranks.{Before}
+use Rattle.jobs.proofs.Ranks.{Before}
 use Rattle.states.proofs.Least.{Chosen, Found, some, nothing, best-is}
 use Rattle.states.proofs.Starting.{fresh-at}
 use Rattle.demands.specs.Above.{taskAt, isAbove}
 use Rattle.demands.proofs.Order.{above-tells}
 use Rattle.demands.proofs.Obeyed.{deadline-most}
-use Rattle.engine.specs.declared.Applied.{Applied}
+use Rattle.effects.specs.declared.Applied.{Applied}
 use Rattle.rulings.specs.Steps.{tooSoon, reopened}
-use Rattle.engine.specs.Steps.{expiredAll}
-use Rattle.engine.specs.Apply.{accepted, applied}
+use Rattle.effects.specs.Steps.{expiredAll}
+use Rattle.effects.specs.Apply.{accepted, applied}
 use Rattle.guarantee.specs.History.{stateAfter, recordAfter, accepts, isAccepted, jobsOf}
 use Rattle.guarantee.specs.ChosenTime.{isChoice, openTime}
 use Rattle.guarantee.specs.Premise.{Timely, Premise}

@@ -8,7 +8,7 @@ use lib.Dec.{eqb, ltb}
 use Rattle.laws.proofs.Tests.{true-not-false, both-hold}
 use Rattle.records.specs.declared.Record.{Record}
 use Rattle.records.specs.Closing.{closed}
-use Rattle.records.specs.Opening.{expired}
+use Rattle.jobs.specs.Opening.{expired}
 use Rattle.rulings.specs.Steps.{isOpen}
 
 -- what a step does not touch

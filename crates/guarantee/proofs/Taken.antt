@@ -15,17 +15,17 @@ use Rattle.events.specs.Event.{faultOf}
 use Rattle.events.proofs.Rules.{judge-0}
 use Rattle.records.specs.declared.Record.{Record}
 use Rattle.records.specs.Closing.{closed}
-use Rattle.records.specs.Opening.{expired, noRecord}
+use Rattle.jobs.specs.Opening.{expired, noRecord}
 use Rattle.states.specs.declared.State.{State}
 use Rattle.states.specs.State.{recordAt}
 use Rattle.states.specs.Sound.{limit, StateSound}
 use Rattle.states.specs.Choice.{chosen}
-use Rattle.engine.specs.declared.Answer.the-variants.{Run, Idle}
-use Rattle.engine.specs.declared.Applied.{Applied}
+use Rattle.effects.specs.declared.Answer.the-variants.{Run, Idle}
+use Rattle.effects.specs.declared.Applied.{Applied}
 use Rattle.rulings.specs.Steps.{tooSoon, reopened, isOpen}
-use Rattle.engine.specs.Steps.{expiredAll}
-use Rattle.engine.specs.Apply.{answerOf, accepted, refused, ticked, releasedAt, completedAt, byKind, timed, acted, applied}
-use Rattle.engine.proofs.Runs.{sound-acts}
+use Rattle.effects.specs.Steps.{expiredAll}
+use Rattle.effects.specs.Apply.{answerOf, accepted, refused, ticked, releasedAt, completedAt, byKind, timed, acted, applied}
+use Rattle.effects.proofs.Runs.{sound-acts}
 use Rattle.guarantee.specs.History.{accepts, completes}
 use Rattle.guarantee.proofs.Steps.{is-open}
 use Rattle.guarantee.proofs.Closes.{other-kind, other-task, completed}

@@ -7,9 +7,9 @@ use Rattle.events.specs.declared.Event.{Event}
 use Rattle.records.specs.declared.Record.{Record}
 use Rattle.states.specs.declared.State.{State}
 use Rattle.states.specs.State.{recordAt}
-use Rattle.engine.specs.declared.Answer.{Answer}
-use Rattle.engine.specs.declared.Answer.the-variants.{Run, Idle, Refused}
-use Rattle.engine.specs.Apply.{applied}
+use Rattle.effects.specs.declared.Answer.{Answer}
+use Rattle.effects.specs.declared.Answer.the-variants.{Run, Idle, Refused}
+use Rattle.effects.specs.Apply.{applied}
 
 -- the state that a run leaves; a refused event leaves the one before it
 unfoldable pub stateAfter : State → List Event → State

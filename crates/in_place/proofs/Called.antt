@@ -24,11 +24,11 @@ use denote.Triple.Spec.{tripleOf}
 use denote.Triple.Clauses.{ensured, lasts}
 use Rattle.events.specs.declared.Event.{Event}
 use Rattle.records.specs.declared.Record.{Record}
-use Rattle.records.specs.Opening.{expired}
+use Rattle.jobs.specs.Opening.{expired}
 use Rattle.states.specs.declared.Best.{Best}
-use Rattle.engine.specs.declared.Answer.{Answer}
+use Rattle.effects.specs.declared.Answer.{Answer}
 use Rattle.rulings.specs.declared.Ruling.{Ruling}
-use Rattle.engine.specs.Apply.{toldOf}
+use Rattle.effects.specs.Apply.{toldOf}
 use Rattle.rulings.specs.Ruling.{seatOf, ruled}
 use Rattle.in_place.specs.declared.Turn.{Turn}
 use Rattle.in_place.specs.Turns.{unsound, acceptedTurn, refusedTurn, placedBy}
@@ -38,14 +38,14 @@ use Rattle.records.proofs.Record as R
 use Rattle.records.proofs.Record.Laws as R′
 use Rattle.states.proofs.Best as B
 use Rattle.states.proofs.Best.Laws as B′
-use Rattle.engine.proofs.Answer as S
-use Rattle.engine.proofs.Answer.Laws as S′
+use Rattle.effects.proofs.Answer as S
+use Rattle.effects.proofs.Answer.Laws as S′
 use Rattle.rulings.proofs.Ruling as Q
 use Rattle.rulings.proofs.Ruling.Laws as Q′
-use Rattle.engine.proofs.Applied as P
+use Rattle.effects.proofs.Applied as P
 use Rattle.in_place.proofs.Turn as U
 use Rattle.in_place.proofs.Turn.Laws as U′
-use Rattle.records.proofs.opening.expire as expire
+use Rattle.jobs.proofs.opening.expire as expire
 use Rattle.rulings.proofs.judging.rule as rule
 use Rattle.in_place.proofs.steps.seat_of as seat-of
 use Rattle.in_place.proofs.steps.told_of as told-of

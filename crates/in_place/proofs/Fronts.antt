@@ -13,7 +13,7 @@ use Rattle.laws.specs.Stores.{filled}
 use Rattle.laws.proofs.Stores.{filled-same}
 use Rattle.events.specs.declared.Event.{Event}
 use Rattle.records.specs.declared.Record.{Record}
-use Rattle.records.specs.Opening.{expired, noRecord}
+use Rattle.jobs.specs.Opening.{expired, noRecord}
 use Rattle.states.specs.declared.Best.{Best}
 use Rattle.states.specs.declared.State.{State}
 use Rattle.states.specs.State.{recordAt}
@@ -21,13 +21,13 @@ use Rattle.states.specs.Sound.{StateSound, eachHolds, stateHolds}
 use Rattle.states.specs.Choice.{bestTo}
 use Rattle.states.proofs.Least.{best-within}
 use Rattle.states.proofs.Sounding.{state-tells}
-use Rattle.engine.specs.declared.Answer.{Answer}
-use Rattle.engine.specs.declared.Applied.{Applied}
+use Rattle.effects.specs.declared.Answer.{Answer}
+use Rattle.effects.specs.declared.Applied.{Applied}
 use Rattle.rulings.specs.declared.Ruling.{Ruling}
-use Rattle.engine.specs.Steps.{expiredAll}
-use Rattle.engine.specs.Apply.{toldOf, answerOf, moved, accepted, refused, acted, applied}
+use Rattle.effects.specs.Steps.{expiredAll}
+use Rattle.effects.specs.Apply.{toldOf, answerOf, moved, accepted, refused, acted, applied}
 use Rattle.rulings.specs.Ruling.{seatOf, ruled}
-use Rattle.engine.proofs.Frame.{count-stays}
+use Rattle.effects.proofs.Frame.{count-stays}
 use Rattle.engine.proofs.Rulings.{Decides, refused-by, accepted-by, decided}
 use Rattle.in_place.specs.declared.Turn.{Turn}
 use Rattle.lent.specs.Row.{stateOf, rowOf}

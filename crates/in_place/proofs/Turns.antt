@@ -14,20 +14,20 @@ use Rattle.laws.proofs.Stores.{length-filled}
 use Rattle.laws.proofs.Tests.{tells-true}
 use Rattle.events.specs.declared.Event.{Event}
 use Rattle.records.specs.declared.Record.{Record}
-use Rattle.records.specs.Opening.{expired, noRecord}
+use Rattle.jobs.specs.Opening.{expired, noRecord}
 use Rattle.states.specs.declared.Best.{Best}
 use Rattle.states.specs.declared.State.{State}
 use Rattle.states.specs.Sound.{StateSound, stateHolds}
 use Rattle.states.specs.Choice.{better, bestTo}
 use Rattle.states.proofs.Least.{best-within}
 use Rattle.states.proofs.Sounding.{state-tells}
-use Rattle.engine.specs.declared.Answer.{Answer}
-use Rattle.engine.specs.declared.Answer.the-variants.{Refused}
-use Rattle.engine.specs.declared.Applied.{Applied}
+use Rattle.effects.specs.declared.Answer.{Answer}
+use Rattle.effects.specs.declared.Answer.the-variants.{Refused}
+use Rattle.effects.specs.declared.Applied.{Applied}
 use Rattle.rulings.specs.declared.Ruling.{Ruling}
-use Rattle.engine.specs.Apply.{toldOf, answerOf, moved, refused, acted, applied}
+use Rattle.effects.specs.Apply.{toldOf, answerOf, moved, refused, acted, applied}
 use Rattle.rulings.specs.Ruling.{ruled}
-use Rattle.engine.proofs.Frame.{refused-stays}
+use Rattle.effects.proofs.Frame.{refused-stays}
 use Rattle.engine.proofs.Rulings.{Accepts, refused-by, accepted-by, decided}
 use Rattle.engine.proofs.Settled.{settledTo, Settling, settling-more, stored-first}
 use Rattle.in_place.specs.declared.Turn.{Turn}

@@ -6,14 +6,14 @@ use lib.ListN.{length, getD, set}
 use Rattle.laws.specs.Stores.{filled}
 use Rattle.events.specs.declared.Event.{Event}
 use Rattle.records.specs.declared.Record.{Record}
-use Rattle.records.specs.Opening.{expired, noRecord}
+use Rattle.jobs.specs.Opening.{expired, noRecord}
 use Rattle.states.specs.Sound.{stateHolds}
 use Rattle.states.specs.Choice.{bestTo}
-use Rattle.engine.specs.declared.Answer.{Answer}
-use Rattle.engine.specs.declared.Answer.the-variants.{Refused}
-use Rattle.engine.specs.declared.Applied.{Applied}
+use Rattle.effects.specs.declared.Answer.{Answer}
+use Rattle.effects.specs.declared.Answer.the-variants.{Refused}
+use Rattle.effects.specs.declared.Applied.{Applied}
 use Rattle.rulings.specs.declared.Ruling.{Ruling}
-use Rattle.engine.specs.Apply.{toldOf}
+use Rattle.effects.specs.Apply.{toldOf}
 use Rattle.rulings.specs.Ruling.{seatOf, kept, ruled}
 use Rattle.in_place.specs.declared.Turn.{Turn}
 use Rattle.lent.specs.Row.{stateOf}

@@ -2,7 +2,7 @@
 pub mod apply;
 mod steps;
 
-use engine::Answer;
+use effects::Answer;
 
 // What an event comes to over a lent row: the answer, and the clock afterwards.
 pub struct Turn {

@@ -1,7 +1,7 @@
 // What the walks do with an event and its ruling, on values.
 use super::Turn;
-use engine::Answer;
-use engine::Applied;
+use effects::Answer;
+use effects::Applied;
 use engine::telling::told;
 use events::Event;
 use records::Record;
@@ -11,7 +11,7 @@ use states::Best;
 use states::State;
 use tables::Task;
 ghost use mathlib.Core.Path.{_≡_};
-ghost use Rattle.engine.specs.Apply.{toldOf};
+ghost use Rattle.effects.specs.Apply.{toldOf};
 ghost use Rattle.rulings.specs.Ruling.{seatOf};
 ghost use Rattle.in_place.specs.Turns.{unsound, refusedTurn, acceptedTurn, placedBy};
 

@@ -8,8 +8,8 @@ use native.Mathlib.Omega.{arith}
 use lib.ListN.{length, getD, take, length-take}
 use lib.Seq.{getD-take}
 use Rattle.records.specs.declared.Record.{Record}
-use Rattle.records.specs.Opening.{noRecord}
-use Rattle.records.proofs.Ranks.{key-tells}
+use Rattle.jobs.specs.Opening.{noRecord}
+use Rattle.jobs.proofs.Ranks.{key-tells}
 use Rattle.laws.proofs.Tests.{true-not-false}
 use Rattle.states.specs.declared.Best.{Best}
 use Rattle.states.specs.declared.State.{State}

@@ -7,8 +7,8 @@ use lib.Dec.{leb}
 use lib.ListN.{length, take, getD}
 use Rattle.tables.specs.Rules.{countHolds}
 use Rattle.records.specs.declared.Record.{Record}
-use Rattle.records.specs.Opening.{noRecord}
-use Rattle.records.specs.Rank.{Above}
+use Rattle.jobs.specs.Opening.{noRecord}
+use Rattle.jobs.specs.Rank.{Above}
 use Rattle.states.specs.declared.State.{State}
 use Rattle.states.specs.Sound.{limit}
 

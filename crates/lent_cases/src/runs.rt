@@ -4,12 +4,12 @@ use super::dice::pick;
 use super::events_of::event;
 use super::events_of::table;
 use super::same::both;
-use engine::Answer;
+use effects::Answer;
 use engine::apply::apply;
 use in_place::apply::apply_of;
 use states::State;
 use states::fresh::start;
-ghost use Prim.Native.Nat.{_<_, _≤_};
+ghost use Prim.Native.Nat.{_<_};
 
 // seen: how often each refusal came, at its number; 16 for a chosen job and 17 for none.
 pub struct Walk {

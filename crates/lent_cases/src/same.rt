@@ -1,6 +1,6 @@
 // Whether two answers and two states are the same, number by number.
-use engine::Answer;
-use engine::Applied;
+use effects::Answer;
+use effects::Applied;
 use records::Record;
 use states::State;
 use tables::Task;

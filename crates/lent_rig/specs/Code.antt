@@ -5,10 +5,10 @@ use Rattle.table_bytes.specs.Reading.{readTable}
 use Rattle.logs.specs.Log.{eventsOf}
 use Rattle.states.specs.declared.State.{State}
 use Rattle.states.specs.State.{started}
-use Rattle.engine.specs.declared.Answer.{Answer}
-use Rattle.engine.specs.declared.Answer.the-variants.{Run, Idle, Refused}
-use Rattle.engine.specs.declared.Applied.{Applied}
-use Rattle.engine.specs.Log.{ranOver}
+use Rattle.effects.specs.declared.Answer.{Answer}
+use Rattle.effects.specs.declared.Answer.the-variants.{Run, Idle, Refused}
+use Rattle.effects.specs.declared.Applied.{Applied}
+use Rattle.effects.specs.Log.{ranOver}
 
 -- no event has come
 abbrev pub begun : State → Applied

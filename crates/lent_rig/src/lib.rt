@@ -1,12 +1,12 @@
 // The rig's code by the engine in place: for a test from C that holds the two engines to each other, event by event.
-use engine::Answer;
+use effects::Answer;
 use events::Reading;
 use events::read;
 use in_place::apply::apply_of;
 use states::State;
 ghost use mathlib.Core.Path.{_≡_};
 ghost use Rattle.logs.specs.Log.{eventsOf};
-ghost use Rattle.engine.specs.Log.{ranOver};
+ghost use Rattle.effects.specs.Log.{ranOver};
 ghost use Rattle.lent_rig.specs.Code.{begun, answerCode, inPlaceCode};
 
 // Each event is applied to a row that is lent.

@@ -35,11 +35,11 @@ use Rattle.soundness.specs.Sound.{openOf, Sound}
 use Rattle.states.specs.declared.State.{State}
 use Rattle.states.specs.Sound.{limit, StateSound}
 use Rattle.states.specs.State.{recordAt, freshState}
-use Rattle.engine.specs.declared.Answer.{Answer as Said}
-use Rattle.engine.specs.declared.Answer.the-variants as Said
-use Rattle.engine.specs.Apply.{applied}
-use Rattle.engine.proofs.Frame.{count-stays}
-use Rattle.engine.proofs.Kept.{applied-sound}
+use Rattle.effects.specs.declared.Answer.{Answer as Said}
+use Rattle.effects.specs.declared.Answer.the-variants as Said
+use Rattle.effects.specs.Apply.{applied}
+use Rattle.effects.proofs.Frame.{count-stays}
+use Rattle.effects.proofs.Kept.{applied-sound}
 use Rattle.task_lines.specs.Lines.{boundText, taskLine, lastLine}
 use Rattle.event_lines.specs.Lines.{refusedLine, answerText, eventLine}
 use Rattle.log_lines.specs.Lines.{eventLines, stateAfter, stopBy, stopText}

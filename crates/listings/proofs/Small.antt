@@ -39,7 +39,7 @@ use Rattle.events.specs.Event.{zeroes, faultOf}
 use Rattle.events.specs.Record.{eventOf, marks, heard, readRecord}
 use Rattle.levels.proofs.Needs.{level-told}
 use Rattle.records.specs.declared.Record.{Record}
-use Rattle.records.specs.Opening.{fresh, expired, noRecord}
+use Rattle.jobs.specs.Opening.{fresh, expired, noRecord}
 use Rattle.records.specs.Window.{windowOf}
 use Rattle.soundness.specs.Sound.{openOf, Sound}
 use Rattle.soundness.proofs.Kept.{fresh-sound}
@@ -49,13 +49,13 @@ use Rattle.states.specs.Choice.{bestTo}
 use Rattle.states.specs.Sound.{limit, StateSound, stateHolds}
 use Rattle.states.specs.State.{freshState}
 use Rattle.states.proofs.Least as Least
-use Rattle.engine.specs.declared.Answer.the-variants as Said
+use Rattle.effects.specs.declared.Answer.the-variants as Said
 use Rattle.states.specs.State.{recordAt as recordOf}
-use Rattle.engine.specs.declared.Answer.{Answer as Said}
-use Rattle.engine.specs.declared.Applied.{Applied}
-use Rattle.engine.specs.Apply.{answerOf, ticked, releasedAt, completedAt, byKind, timed, acted, applied}
+use Rattle.effects.specs.declared.Answer.{Answer as Said}
+use Rattle.effects.specs.declared.Applied.{Applied}
+use Rattle.effects.specs.Apply.{answerOf, ticked, releasedAt, completedAt, byKind, timed, acted, applied}
 use Rattle.rulings.specs.Steps.{tooSoon, isOpen}
-use Rattle.engine.proofs.Kept.{applied-sound}
+use Rattle.effects.proofs.Kept.{applied-sound}
 use Rattle.listings.proofs.Input.{beside-answer}
 
 -- ---- the table's refusal

@@ -22,9 +22,9 @@ use Rattle.events.specs.Record.{readRecord}
 use Rattle.logs.specs.Log.{readable}
 use Rattle.logs.proofs.Rests.{rest-end}
 use Rattle.states.specs.declared.State.{State}
-use Rattle.engine.specs.declared.Applied.{Applied}
-use Rattle.engine.specs.Apply.{applied}
-use Rattle.engine.specs.Log.{standing, ranOver}
+use Rattle.effects.specs.declared.Applied.{Applied}
+use Rattle.effects.specs.Apply.{applied}
+use Rattle.effects.specs.Log.{standing, ranOver}
 use Rattle.wording.specs.Fields.{fieldOf}
 use Rattle.task_lines.specs.Lines.{boundText}
 use Rattle.event_lines.specs.Lines.{tooLong, refusedLine, stopLine}

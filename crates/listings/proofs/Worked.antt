@@ -17,11 +17,11 @@ use Rattle.events.specs.Event.{faultOf, zeroes}
 use Rattle.events.specs.Record.{marks, readRecord}
 use Rattle.logs.specs.Log.{readableIn, readable, eventsIn}
 use Rattle.records.specs.Closing.{closed}
-use Rattle.records.specs.Opening.{expired, opened}
+use Rattle.jobs.specs.Opening.{expired, opened}
 use Rattle.soundness.specs.Sound.{soundHolds}
 use Rattle.states.specs.Sound.{eachHolds, stateHolds}
 use Rattle.states.specs.Choice.{bestTo}
-use Rattle.engine.specs.Apply.{ticked, releasedAt, completedAt, byKind, timed, acted, applied}
+use Rattle.effects.specs.Apply.{ticked, releasedAt, completedAt, byKind, timed, acted, applied}
 use Rattle.log_lines.specs.Lines.{eventLines, stateAfter, stopText}
 use Rattle.listings.specs.Listing.{taskLines, lastLines, tableListing, listed, listingOf}
 

@@ -13,7 +13,7 @@ use Rattle.events.specs.Record.{readRecord}
 use Rattle.logs.specs.Log.{eventsOf}
 use Rattle.logs.proofs.Going.{Going, going-none, going-more, going-stop}
 use Rattle.states.specs.declared.State.{State}
-use Rattle.engine.specs.Apply.{applied}
+use Rattle.effects.specs.Apply.{applied}
 use Rattle.event_lines.specs.Lines.{eventLine}
 use Rattle.log_lines.specs.Lines.{eventLines, stateAfter, stopBy}
 

@@ -7,7 +7,7 @@ use Rattle.events.specs.declared.Reading.the-variants as R
 use Rattle.events.specs.Record.{readRecord}
 use Rattle.logs.specs.Log.{readable, restOf}
 use Rattle.states.specs.declared.State.{State}
-use Rattle.engine.specs.Apply.{applied}
+use Rattle.effects.specs.Apply.{applied}
 use Rattle.event_lines.specs.Lines.{eventLine, stopLine}
 
 -- one line per event in order from number i, refused ones included

@@ -1,4 +1,3 @@
 -- What is shown of a record beside the functions' contracts.
 pub mod Marks
-pub mod Ranks
 pub mod Steps

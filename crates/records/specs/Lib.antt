@@ -1,5 +1,3 @@
 -- What the crate's contracts cite, in document 01's order.
 pub mod Window
 pub mod Closing
-pub mod Opening
-pub mod Rank

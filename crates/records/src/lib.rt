@@ -1,8 +1,6 @@
-// One task's record, by value: what closing, opening and the choice do to it and read of it.
+// One task's record, by value, and what the closing of a job makes of it.
 pub mod closing;
-mod counts;
-pub mod opening;
-pub mod rank;
+pub mod counts;
 
 use tables::Task;
 

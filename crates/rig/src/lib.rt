@@ -1,5 +1,5 @@
 // The bench rig: one function for C callers, over table bytes and log bytes. include/brumerola.h declares it.
-use engine::Answer;
+use effects::Answer;
 use events::Reading;
 use states::State;
 ghost use mathlib.Core.Path.{_≡_};

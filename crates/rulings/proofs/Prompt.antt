@@ -8,7 +8,7 @@ use lib.Dec.{ltb}
 use Rattle.laws.proofs.Tests.{by-test}
 use Rattle.records.specs.declared.Record.{Record}
 use Rattle.records.specs.Closing.{closed}
-use Rattle.records.specs.Opening.{late, expired, opened}
+use Rattle.jobs.specs.Opening.{late, expired, opened}
 use Rattle.rulings.specs.Steps.{reopened}
 use Rattle.rulings.specs.Ruling.{seatOf}
 

@@ -6,7 +6,7 @@ use Rattle.events.specs.declared.Event.{Event}
 use Rattle.events.specs.Event.{faultOf}
 use Rattle.records.specs.declared.Record.{Record}
 use Rattle.records.specs.Closing.{closed}
-use Rattle.records.specs.Opening.{expired}
+use Rattle.jobs.specs.Opening.{expired}
 use Rattle.states.specs.Sound.{limit}
 use Rattle.rulings.specs.declared.Ruling.{Ruling}
 use Rattle.rulings.specs.Steps.{tooSoon, reopened, isOpen}

@@ -4,7 +4,7 @@ use mathlib.Core.Bool.{Bool, false, cond}
 use lib.Dec.{eqb, ltb}
 use Rattle.records.specs.declared.Record.{Record}
 use Rattle.records.specs.Closing.{closed}
-use Rattle.records.specs.Opening.{opened}
+use Rattle.jobs.specs.Opening.{opened}
 
 -- 11: a release sooner than T after the task's last release, if it had one
 abbrev pub tooSoon : Record → ℕ → Bool

@@ -5,9 +5,9 @@ use super::steps::reopen;
 use super::steps::too_soon;
 use events::Event;
 use events::judge;
+use jobs::opening::expire;
 use records::Record;
 use records::closing::close;
-use records::opening::expire;
 ghost use mathlib.Core.Path.{_≡_};
 ghost use Rattle.rulings.specs.Ruling.{seatOf, barOf, releaseOf, completionOf, ownOf, ruled};
 

@@ -1,7 +1,7 @@
 // The steps of an event for its own task: whether a release comes too soon, what opens, and which job is open.
+use jobs::opening::release;
 use records::Record;
 use records::closing::close;
-use records::opening::release;
 ghost use mathlib.Core.Path.{_≡_};
 ghost use Rattle.rulings.specs.Steps.{tooSoon, reopened, isOpen};
 

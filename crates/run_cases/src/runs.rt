@@ -1,7 +1,7 @@
 // One table and one log: the answer to each event, and the tasks at the end.
 use super::print::number;
 use super::print::text;
-use engine::Answer;
+use effects::Answer;
 use engine::apply::apply;
 use events::Reading;
 use records::Record;

@@ -19,7 +19,7 @@ use Rattle.thresholds.proofs.Paper.{h-some}
 use Rattle.tables.proofs.Ruling.{fault-none}
 use Rattle.records.specs.declared.Record.{Record}
 use Rattle.records.specs.Closing.{setBack, closed}
-use Rattle.records.specs.Opening.{fresh, expired, opened}
+use Rattle.jobs.specs.Opening.{fresh, expired, opened}
 use Rattle.records.specs.Window.{countOf, pushed, brokenBy}
 use Rattle.records.proofs.Marks.{pushed-fits, count-rises}
 use Rattle.records.proofs.Steps.{stays-below}

@@ -9,7 +9,7 @@ use native.Mathlib.Omega.{arith}
 use lib.ListN.{getD}
 use Rattle.laws.proofs.Tests.{both-hold}
 use Rattle.records.specs.declared.Record.{Record}
-use Rattle.records.specs.Opening.{noRecord}
+use Rattle.jobs.specs.Opening.{noRecord}
 use Rattle.soundness.specs.Sound.{soundHolds}
 use Rattle.states.specs.Sound.{eachHolds}
 

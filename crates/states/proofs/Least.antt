@@ -13,9 +13,9 @@ use lib.ListN.{getD, set}
 use lib.Seq.{getD-set-other}
 use Rattle.laws.proofs.Tests.{true-not-false, by-test}
 use Rattle.records.specs.declared.Record.{Record}
-use Rattle.records.specs.Opening.{noRecord}
-use Rattle.records.specs.Rank.{keyOf}
-use Rattle.records.proofs.Ranks.{Before}
+use Rattle.jobs.specs.Opening.{noRecord}
+use Rattle.jobs.specs.Rank.{keyOf}
+use Rattle.jobs.proofs.Ranks.{Before}
 use Rattle.states.specs.declared.Best.{Best}
 use Rattle.states.specs.Choice.{wins, better, bestTo}
 

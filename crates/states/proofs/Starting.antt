@@ -12,7 +12,7 @@ use Rattle.tables.specs.Rules.{noTask}
 use Rattle.tables.specs.Judging.{judged}
 use Rattle.tables.proofs.Exactly.{judged-accepted}
 use Rattle.records.specs.declared.Record.{Record}
-use Rattle.records.specs.Opening.{fresh, noRecord}
+use Rattle.jobs.specs.Opening.{fresh, noRecord}
 use Rattle.soundness.proofs.Kept.{fresh-sound}
 use Rattle.states.specs.declared.Best.{Best}
 use Rattle.states.specs.State.{recordAt, freshState}

@@ -5,8 +5,8 @@ use mathlib.Core.List.{List}
 use lib.Dec.{ltb}
 use lib.ListN.{getD}
 use Rattle.records.specs.declared.Record.{Record}
-use Rattle.records.specs.Opening.{noRecord}
-use Rattle.records.specs.Rank.{keyOf}
+use Rattle.jobs.specs.Opening.{noRecord}
+use Rattle.jobs.specs.Rank.{keyOf}
 use Rattle.states.specs.declared.Best.{Best}
 use Rattle.states.specs.declared.State.{State}
 

@@ -6,7 +6,7 @@ use lib.ListN.{getD}
 use mathlib.Core.List.{List}
 use Rattle.tables.specs.Rules.{Counted, countHolds}
 use Rattle.records.specs.declared.Record.{Record}
-use Rattle.records.specs.Opening.{noRecord}
+use Rattle.jobs.specs.Opening.{noRecord}
 use Rattle.soundness.specs.Sound.{Sound, soundHolds}
 use Rattle.states.specs.declared.State.{State}
 use Rattle.states.specs.State.{recordAt}

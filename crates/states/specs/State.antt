@@ -8,7 +8,7 @@ use Rattle.tables.specs.declared.Table.{Table}
 use Rattle.tables.specs.Rules.{noTask}
 use Rattle.tables.specs.Judging.{judged}
 use Rattle.records.specs.declared.Record.{Record}
-use Rattle.records.specs.Opening.{fresh, noRecord}
+use Rattle.jobs.specs.Opening.{fresh, noRecord}
 use Rattle.states.specs.declared.State.{State}
 use Rattle.states.specs.declared.Started.{Started}
 

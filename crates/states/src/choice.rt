@@ -1,8 +1,8 @@
 // The choice: the open job that is least by class, then by D, then by table position.
 use super::Best;
 use super::State;
+use jobs::rank::key;
 use records::Record;
-use records::rank::key;
 ghost use mathlib.Core.Path.{_≡_};
 ghost use Prim.Native.Nat.{min};
 ghost use Rattle.states.specs.Choice.{wins, better, chosen};

@@ -1,15 +1,15 @@
 // A fresh state of a table: the table's refusals first, and zeros past the last task.
 use super::Started;
 use super::State;
+use jobs::opening::fresh_of;
 use records::Record;
-use records::opening::fresh_of;
 use tables::Answer;
 use tables::Table;
 use tables::Task;
 use tables::rules::judge;
 ghost use mathlib.Core.Path.{_≡_};
 ghost use Prim.Native.Nat.{_≤_};
-ghost use Rattle.records.specs.Opening.{noRecord};
+ghost use Rattle.jobs.specs.Opening.{noRecord};
 ghost use Rattle.states.specs.State.{noState, freshState, started};
 
 fn no_record() -> Record

@@ -8,7 +8,7 @@ use lib.ListN.{length}
 use Rattle.tables.specs.declared.Task.{Task}
 use Rattle.records.specs.declared.Record.{Record}
 use Rattle.records.specs.Closing.{closed}
-use Rattle.records.specs.Opening.{fresh, opened}
+use Rattle.jobs.specs.Opening.{fresh, opened}
 use Rattle.windows.specs.Outcomes.{mets, misses}
 use Rattle.windows.specs.History.{History, start, release, close, openOf}
 

@@ -9,7 +9,7 @@ use Rattle.levels.specs.Level.{classOf}
 use Rattle.tables.specs.declared.Task.{Task}
 use Rattle.records.specs.declared.Record.{Record}
 use Rattle.records.specs.Closing.{closed}
-use Rattle.records.specs.Opening.{fresh, opened}
+use Rattle.jobs.specs.Opening.{fresh, opened}
 use Rattle.windows.specs.Rungs.{Rung, lowRung, rungAfter}
 use Rattle.windows.specs.History.{rungOf}
 use Rattle.windows.specs.Bound.{RequiredMet, Ledger, blank, then-met, then-missed}

@@ -15,7 +15,7 @@ use Rattle.tables.specs.Rules.{Misses}
 use Rattle.records.specs.declared.Record.{Record}
 use Rattle.records.specs.Window.{pushed, windowOf}
 use Rattle.records.specs.Closing.{closed}
-use Rattle.records.specs.Opening.{opened}
+use Rattle.jobs.specs.Opening.{opened}
 use Rattle.windows.specs.Outcomes.{misses, lastMisses, markOf, wordOf}
 use Rattle.windows.specs.History.{History, start, release, close}
 use Rattle.windows.proofs.Counts.{counts}

@@ -14,7 +14,7 @@ use Rattle.tables.specs.Rules.{Misses}
 use Rattle.thresholds.proofs.Paper.{h-covers}
 use Rattle.records.specs.declared.Record.{Record}
 use Rattle.records.specs.Closing.{setBack, closed}
-use Rattle.records.specs.Opening.{opened}
+use Rattle.jobs.specs.Opening.{opened}
 use Rattle.windows.specs.Rungs.{wFor, hFor, topFor, Rung, lowRung, metRung, missedRung, longer, rungAfter, InRange}
 use Rattle.windows.specs.History.{History, start, release, close, rungOf}
 use Rattle.windows.proofs.Counts.{counts}

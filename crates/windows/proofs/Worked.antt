@@ -10,7 +10,7 @@ use Rattle.tables.specs.declared.Task.{Task}
 use Rattle.records.specs.declared.Record.{Record}
 use Rattle.records.specs.Window.{windowOf}
 use Rattle.records.specs.Closing.{closed}
-use Rattle.records.specs.Opening.{fresh, opened}
+use Rattle.jobs.specs.Opening.{fresh, opened}
 use Rattle.windows.specs.Outcomes.{lastMisses, firstOver}
 use Rattle.windows.specs.Rungs.{Rung, lowRung, metRung, missedRung, rungAfter}
 use Rattle.windows.specs.Bound.{Ledger, blank, then-met, then-missed}

@@ -6,7 +6,7 @@ use mathlib.Core.List.{List, [], _∷_}
 use Rattle.tables.specs.declared.Task.{Task}
 use Rattle.records.specs.declared.Record.{Record}
 use Rattle.records.specs.Closing.{closed}
-use Rattle.records.specs.Opening.{fresh, opened}
+use Rattle.jobs.specs.Opening.{fresh, opened}
 use Rattle.windows.specs.Rungs.{Rung}
 
 -- the outcomes of the closed jobs and the record that they leave

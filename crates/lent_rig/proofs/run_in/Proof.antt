@@ -8,9 +8,9 @@ use lib.ListN.{length}
 use Rattle.laws.proofs.Parts.{tail-is}
 use Rattle.events.specs.Record.{readRecord}
 use Rattle.logs.proofs.Going.{Going, going-none, going-more, going-stop}
-use Rattle.engine.specs.declared.Applied.{Applied}
-use Rattle.engine.specs.Apply.{applied}
-use Rattle.engine.specs.Log.{ranOver}
+use Rattle.effects.specs.declared.Applied.{Applied}
+use Rattle.effects.specs.Apply.{applied}
+use Rattle.effects.specs.Log.{ranOver}
 use Rattle.lent_rig.specs.Code.{begun}
 use Rattle.lent_rig.proofs.run_in.Statement.{statement}
 use Rattle.lent_rig.proofs.run_in.Tie as tie

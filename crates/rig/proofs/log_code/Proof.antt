@@ -4,8 +4,8 @@ use mathlib.Core.Logic.{⊎-elim}
 use native.Mathlib.Omega.{arith}
 use borrow.Author.Needs.{needs}
 use Rattle.events.specs.Record.{readRecord}
-use Rattle.engine.specs.declared.Applied.{Applied}
-use Rattle.engine.specs.Log.{ran}
+use Rattle.effects.specs.declared.Applied.{Applied}
+use Rattle.effects.specs.Log.{ran}
 use Rattle.codes.specs.Code.{codeFor, ofAnswer}
 use Rattle.codes.proofs.Answers.{ran-said, said-16}
 use Rattle.codes.proofs.Cases.{case-stopped, case-ended}

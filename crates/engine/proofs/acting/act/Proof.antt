@@ -9,14 +9,14 @@ use borrow.Author.Needs.{needs}
 use lib.ListN.{length, getD, set}
 use Rattle.laws.proofs.Parts.{tail-is}
 use Rattle.events.specs.Record.{readRecord}
-use Rattle.records.specs.Opening.{expired, noRecord}
+use Rattle.jobs.specs.Opening.{expired, noRecord}
 use Rattle.states.specs.declared.State.{State}
 use Rattle.states.proofs.Least.{best-within}
 use Rattle.rulings.proofs.Prompt.{seat-below}
-use Rattle.engine.specs.declared.Applied.{Applied}
-use Rattle.engine.specs.Apply.{moved, acted, applied}
+use Rattle.effects.specs.declared.Applied.{Applied}
+use Rattle.effects.specs.Apply.{moved, acted, applied}
 use Rattle.engine.proofs.Rulings.{Decides, refused-by, accepted-by, decided}
-use Rattle.engine.proofs.Runs.{sound-acts, Running, running-none, running-more, running-stop}
+use Rattle.effects.proofs.Runs.{sound-acts, Running, running-none, running-more, running-stop}
 use Rattle.engine.proofs.Settled.{Settling, settling-none, settling-more, late-closed, prompt-stays, settled-accepted}
 use Rattle.engine.proofs.acting.act.Statement.{statement}
 use Rattle.engine.proofs.acting.act.Tie as tie

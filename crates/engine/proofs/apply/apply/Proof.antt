@@ -1,8 +1,8 @@
 -- `apply::apply` meets its contract: a state that is not sound goes no further, and nothing follows the event.
 use mathlib.Core.Path.{sym, _∙_}
 use Rattle.states.proofs.Sounding.{state-tells}
-use Rattle.engine.specs.Apply.{applied}
-use Rattle.engine.proofs.Runs.{ran-nothing}
+use Rattle.effects.specs.Apply.{applied}
+use Rattle.effects.proofs.Runs.{ran-nothing}
 use borrow.Author.Needs.{needs}
 use Rattle.engine.proofs.apply.apply.Statement.{statement}
 use Rattle.engine.proofs.apply.apply.Tie as tie

@@ -12,9 +12,9 @@ use Rattle.logs.specs.Log.{eventsOf}
 use Rattle.logs.proofs.Records.{goes-of}
 use Rattle.states.specs.Sound.{StateSound}
 use Rattle.states.proofs.Sounding.{state-tells}
-use Rattle.engine.specs.Apply.{applied}
-use Rattle.engine.specs.Log.{ranOver, ran}
-use Rattle.engine.proofs.Runs.{ran-stands, ran-first}
+use Rattle.effects.specs.Apply.{applied}
+use Rattle.effects.specs.Log.{ranOver, ran}
+use Rattle.effects.proofs.Runs.{ran-stands, ran-first}
 use borrow.Author.Needs.{needs}
 use Rattle.engine.proofs.log.run.Statement.{statement}
 use Rattle.engine.proofs.log.run.Tie as tie

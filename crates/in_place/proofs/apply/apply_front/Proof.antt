@@ -48,16 +48,16 @@ use denote.Exit.{yes}
 use Rattle.events.specs.declared.Event.{Event}
 use Rattle.records.specs.declared.Record.{Record}
 use Rattle.states.specs.declared.State.{State}
-use Rattle.engine.specs.declared.Applied.{Applied}
-use Rattle.engine.specs.Apply.{applied}
+use Rattle.effects.specs.declared.Applied.{Applied}
+use Rattle.effects.specs.Apply.{applied}
 use Rattle.in_place.specs.declared.Turn.{Turn}
 use Rattle.in_place.specs.Turns.{placedBy}
 use Rattle.events.proofs.Event as E
 use Rattle.events.proofs.Event.Laws as E′
 use Rattle.records.proofs.Record as R
 use Rattle.records.proofs.Record.Laws as R′
-use Rattle.engine.proofs.Applied as P
-use Rattle.engine.proofs.Applied.Laws as P′
+use Rattle.effects.proofs.Applied as P
+use Rattle.effects.proofs.Applied.Laws as P′
 use Rattle.in_place.proofs.Turn as U
 use Rattle.in_place.proofs.Turn.Laws as U′
 use Rattle.lent.proofs.Called.{record-vals}

@@ -46,7 +46,7 @@ use denote.Triple.Walked.{says, Stays, stay-slice, stay-dropped, walkOf, AllGo, 
 use denote.Exit.{yes}
 use Rattle.events.specs.declared.Event.{Event}
 use Rattle.records.specs.declared.Record.{Record}
-use Rattle.engine.specs.declared.Answer.{Answer}
+use Rattle.effects.specs.declared.Answer.{Answer}
 use Rattle.rulings.specs.declared.Ruling.{Ruling}
 use Rattle.in_place.specs.declared.Turn.{Turn}
 use Rattle.in_place.specs.Turns.{ruledRow, settledRow, rowAnswer, acceptedTurn, refusedTurn}
@@ -54,8 +54,8 @@ use Rattle.events.proofs.Event as E
 use Rattle.events.proofs.Event.Laws as E′
 use Rattle.records.proofs.Record as R
 use Rattle.records.proofs.Record.Laws as R′
-use Rattle.engine.proofs.Answer as S
-use Rattle.engine.proofs.Answer.Laws as S′
+use Rattle.effects.proofs.Answer as S
+use Rattle.effects.proofs.Answer.Laws as S′
 use Rattle.rulings.proofs.Ruling as Q
 use Rattle.rulings.proofs.Ruling.Laws as Q′
 use Rattle.in_place.proofs.Turn as U

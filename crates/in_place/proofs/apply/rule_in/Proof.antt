@@ -42,7 +42,7 @@ use denote.Triple.Walked.{says, Stays, stay-none-slice, stay-dropped, walkOf, Al
 use denote.Exit.{yes}
 use Rattle.events.specs.declared.Event.{Event}
 use Rattle.records.specs.declared.Record.{Record}
-use Rattle.records.specs.Opening.{noRecord}
+use Rattle.jobs.specs.Opening.{noRecord}
 use Rattle.states.specs.Sound.{stateHolds}
 use Rattle.rulings.specs.declared.Ruling.{Ruling}
 use Rattle.rulings.specs.Ruling.{ruled}

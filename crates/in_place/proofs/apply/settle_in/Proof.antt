@@ -47,11 +47,11 @@ use denote.Triple.Walked.{says, needs, Stays, stay-slice, stay-dropped, walkOf, 
 use denote.Exit.{yes}
 use Rattle.events.specs.declared.Event.{Event}
 use Rattle.records.specs.declared.Record.{Record}
-use Rattle.records.specs.Opening.{expired, noRecord}
+use Rattle.jobs.specs.Opening.{expired, noRecord}
 use Rattle.states.specs.declared.Best.{Best}
 use Rattle.states.specs.Choice.{none, better}
-use Rattle.engine.specs.declared.Answer.{Answer}
-use Rattle.engine.specs.Apply.{toldOf}
+use Rattle.effects.specs.declared.Answer.{Answer}
+use Rattle.effects.specs.Apply.{toldOf}
 use Rattle.engine.proofs.Settled.{Settling, settling-none}
 use Rattle.in_place.specs.Turns.{seatIn, storedRow, settledRow, rowAnswer}
 use Rattle.events.proofs.Event as E
@@ -60,17 +60,17 @@ use Rattle.records.proofs.Record as R
 use Rattle.records.proofs.Record.Laws as R′
 use Rattle.states.proofs.Best as B
 use Rattle.states.proofs.Best.Laws as B′
-use Rattle.engine.proofs.Answer as S
-use Rattle.engine.proofs.Answer.Laws as S′
+use Rattle.effects.proofs.Answer as S
+use Rattle.effects.proofs.Answer.Laws as S′
 use Rattle.lent.proofs.Called.{record-val, record-vals, NoBest, BetterOf, to-no-best, to-better-of, goes-no-best, goes-better-of, no-best-gives, better-of-gives}
 use Rattle.in_place.proofs.Called.{event-val, event-vals, best-val, Expire, SeatOf, ToldOf, to-expire, to-seat-of, to-told-of, goes-expire, goes-seat-of, goes-told-of, expire-gives, seat-of-gives, told-of-gives}
 use Rattle.lent.proofs.Plain.{calls-plain}
 use Rattle.rulings.proofs.Prompt.{seat-below}
 use Rattle.in_place.proofs.Turns.{settles-on, settled-at, settled-tells}
 use Rattle.lent.proofs.While.{tests, scaled}
-use Rattle.records.proofs.opening.expire.Symbol as expire-def
-use Rattle.records.proofs.opening.expire.Symbol.{name as #records·opening·expire}
-use Rattle.records.proofs.opening.expire.Met as expire-thm
+use Rattle.jobs.proofs.opening.expire.Symbol as expire-def
+use Rattle.jobs.proofs.opening.expire.Symbol.{name as #records·opening·expire}
+use Rattle.jobs.proofs.opening.expire.Met as expire-thm
 use Rattle.states.proofs.choice.better_of.Symbol as better-of-def
 use Rattle.states.proofs.choice.better_of.Symbol.{name as #states·choice·better-of}
 use Rattle.states.proofs.choice.better_of.Met as better-of-thm

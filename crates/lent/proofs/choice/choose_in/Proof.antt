@@ -41,7 +41,7 @@ use denote.Triple.Spec.{Meets, tripleOf}
 use denote.Triple.Table.{entered, cited}
 use denote.Triple.Walked.{says, Stays, stay-none-slice, walkOf, goes-none-slice, Walks, ends-at, walked, walk-meets}
 use denote.Exit.{yes}
-use Rattle.records.specs.Opening.{noRecord}
+use Rattle.jobs.specs.Opening.{noRecord}
 use Rattle.states.specs.Choice.{none, better, bestTo}
 use Rattle.records.specs.declared.Record.{Record}
 use Rattle.states.specs.declared.Best.{Best}

@@ -44,7 +44,7 @@ use denote.Triple.Spec.{Meets, tripleOf}
 use denote.Triple.Table.{entered, cited}
 use denote.Triple.Walked.{says, Stays, stay-none-slice, stay-dropped, walkOf, AllGo, goes-none-slice, goes-dropped, Walks, ends-at, walked, walk-meets}
 use denote.Exit.{yes}
-use Rattle.records.specs.Opening.{noRecord}
+use Rattle.jobs.specs.Opening.{noRecord}
 use Rattle.tables.specs.Rules.{countHolds}
 use Rattle.soundness.specs.Sound.{soundHolds}
 use Rattle.states.specs.Sound.{limit, eachHolds, stateHolds}

@@ -7,7 +7,7 @@ use lib.ListN.{getD, replicate}
 use borrow.Author.Needs.{needs}
 use Rattle.laws.specs.Stores.{filled}
 use Rattle.tables.specs.Rules.{noTask}
-use Rattle.records.specs.Opening.{fresh, noRecord}
+use Rattle.jobs.specs.Opening.{fresh, noRecord}
 use Rattle.states.proofs.fresh.filled_by.Statement.{statement}
 use Rattle.states.proofs.fresh.filled_by.Tie as tie
 

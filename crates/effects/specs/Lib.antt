@@ -1,0 +1,6 @@
+-- What an event does, in document 01's order.
+pub mod Steps
+pub mod Apply
+pub mod Answers
+pub mod Verdict
+pub mod Log

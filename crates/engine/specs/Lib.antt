@@ -1,6 +1,0 @@
--- What the crate's contracts cite, in document 01's order.
-pub mod Steps
-pub mod Apply
-pub mod Answers
-pub mod Verdict
-pub mod Log
