@@ -16,8 +16,8 @@ use Rattle.events.proofs.Records.{goes-of}
 use Rattle.events.proofs.Logs.{events-more, events-none}
 use Rattle.states.specs.declared.State.{State}
 use Rattle.engine.specs.Apply.{applied}
-use Rattle.event_lines.specs.Lines.{eventLine}
-use Rattle.log_lines.specs.Lines.{eventLines, stateAfter, stopBy}
+use Rattle.listing_text.specs.EventLines.{eventLine}
+use Rattle.listing_text.specs.LogLines.{eventLines, stateAfter, stopBy}
 
 -- at a place of the log, i events later, with the lines and the state so far
 pub record Going (o : List ℕ) (at : ℕ) (s : State) (log : List ℕ) (out : List ℕ) (place : ℕ) (q : State) (i from : ℕ) : Type 0 where
