@@ -1,6 +1,2 @@
--- What is shown of the listing beside the functions' contracts.
-pub mod Fits
-pub mod Input
-pub mod Small
+-- What is shown of the listing in lent bytes beside the functions' contracts.
 pub mod Told
-pub mod Worked

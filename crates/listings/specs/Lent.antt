@@ -6,7 +6,7 @@ use lib.Dec.{ltb}
 use lib.ListN.{length, drop}
 use Rattle.listings.specs.declared.Listing.{Listing}
 use Rattle.listings.specs.declared.Listing.the-variants.{Text, Refused}
-use Rattle.listings.specs.Listing.{listingOf}
+use Rattle.listing_text.specs.Listing.{listingOf}
 
 -- what is asked for: no listing is longer (`listing-fits`)
 abbrev pub room : ℕ

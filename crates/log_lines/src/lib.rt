@@ -7,7 +7,7 @@ use states::State;
 ghost use mathlib.Core.Path.{_≡_};
 ghost use Rattle.logs.specs.Log.{eventsOf};
 ghost use Rattle.texts.specs.Sheet.{sheet, puts};
-ghost use Rattle.log_lines.specs.Lines.{eventLines, stateAfter, stopText};
+ghost use Rattle.listing_text.specs.LogLines.{eventLines, stateAfter, stopText};
 
 // Where the lines of the events end, and the state after them.
 pub struct Ended {
@@ -47,5 +47,5 @@ pub fn stop(out: &mut [u8], at: usize, log: &[u8]) -> usize
     let Reading::Refused(number) = read(left) else {
         return at;
     };
-    event_lines::stop(out, at, number, log.len() - left.len())
+    refusal_lines::stop(out, at, number, log.len() - left.len())
 }

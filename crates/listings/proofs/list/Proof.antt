@@ -9,8 +9,8 @@ use Rattle.texts.specs.Sheet.{Sheet}
 use Rattle.texts.proofs.Sheets.{puts-fit}
 use Rattle.listings.specs.declared.Listing.the-variants.{Text}
 use Rattle.listings.specs.Lent.{listAnswer, listedInto}
-use Rattle.listings.specs.Listing.{listingOf}
-use Rattle.listings.proofs.Fits.{listing-fits}
+use Rattle.listing_text.specs.Listing.{listingOf}
+use Rattle.listing_text.proofs.Fits.{listing-fits}
 use Rattle.listings.proofs.list.Statement.{statement}
 use Rattle.listings.proofs.list.Tie as tie
 

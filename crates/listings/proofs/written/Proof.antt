@@ -2,8 +2,8 @@
 use mathlib.Core.Path.{_≡_, sym, _∙_}
 use borrow.Author.Needs.{needs}
 use borrow.Author.Tests.{lt-ltb, le-ltb}
-use Rattle.listings.specs.Listing.{eventsFrom, listingOf}
-use Rattle.listings.proofs.Input.{from-none, from-some, from-within, table-part, events-part}
+use Rattle.listing_text.specs.Listing.{eventsFrom, listingOf}
+use Rattle.listing_text.proofs.Input.{from-none, from-some, from-within, table-part, events-part}
 use Rattle.listings.proofs.written.Statement.{statement}
 use Rattle.listings.proofs.written.Tie as tie
 

@@ -8,7 +8,7 @@ use Rattle.texts.specs.Sheet.{puts}
 use Rattle.events.specs.Record.{readRecord}
 use Rattle.logs.specs.Log.{readable, restOf}
 use Rattle.logs.proofs.Rests.{rest-offset}
-use Rattle.log_lines.specs.Lines.{stopText}
+use Rattle.listing_text.specs.LogLines.{stopText}
 use Rattle.log_lines.proofs.Events.{no-stop}
 use borrow.Author.Needs.{needs}
 use Rattle.log_lines.proofs.stop.Statement.{statement}

@@ -1,0 +1,53 @@
+-- `counts_text` meets its contract: three counts, one behind another.
+use borrow.Author.Needs.{needs}
+use Rattle.texts.specs.Sheet.{sheet}
+use Rattle.texts.proofs.Sheets.{and-then}
+use Rattle.last_lines.proofs.counts_text.Statement.{statement}
+use Rattle.last_lines.proofs.counts_text.Tie as tie
+
+slice-aggregate-field : tie.Need-slice-aggregate-field
+slice-aggregate-field c = search needs
+
+field-requires : tie.Need-field-requires
+field-requires c κs = search needs
+
+slice-aggregate-field-2 : tie.Need-slice-aggregate-field-2
+slice-aggregate-field-2 c = search needs
+
+field-requires-2 : tie.Need-field-requires-2
+field-requires-2 c κs = search needs
+
+slice-aggregate-field-3 : tie.Need-slice-aggregate-field-3
+slice-aggregate-field-3 c = search needs
+
+open-of-requires : tie.Need-open-of-requires
+open-of-requires c κs = search needs
+
+field-requires-3 : tie.Need-field-requires-3
+field-requires-3 c κs = search needs
+
+same-length : tie.Need-same-length
+same-length c = search needs
+
+returns : tie.Need-returns
+returns c =
+    let f3 = c .before .before in
+    let f2 = f3 .before .before .before .before .before .before in
+    let f1 = f2 .before .before .before .before .before in
+    let a = f1 .before .before .before .before .args in
+    let e3 = f3 .field3 .ensures in
+    and-then (sheet (a .out .now) (a .at)) _ _ (f1 .field .ensures) (and-then _ _ _ (f2 .field2 .ensures) (rw (f3 .before .open-of .ensures) at e3))
+
+pub counts-text-spec : {M : Type 1} → statement M
+counts-text-spec =
+    tie.close
+    (tie.spec
+    slice-aggregate-field
+    field-requires
+    slice-aggregate-field-2
+    field-requires-2
+    slice-aggregate-field-3
+    open-of-requires
+    field-requires-3
+    same-length
+    returns)

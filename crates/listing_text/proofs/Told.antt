@@ -1,0 +1,90 @@
+-- What the parts of the listing say in the words of the crates below: the bound, the state at the end, the stop, and that nothing is listed twice or not at all.
+use Prim.Native.Nat.{ℕ, _*_, _≤_, _<_}
+use mathlib.Core.Path.{_≡_, refl, _∙_}
+use mathlib.Core.Bool.{true, false}
+use mathlib.Core.List.{List, [], _∷_}
+use borrow.Author.Tests.{lt-ltb, le-ltb}
+use lib.ListN.{length, drop}
+use Rattle.tables.specs.declared.Answer.the-variants.{Accepted, Refused}
+use Rattle.tables.specs.declared.Table.{Table}
+use Rattle.tables.specs.Judging.{judged}
+use Rattle.table_bytes.specs.Reading.{readTable}
+use Rattle.response.specs.declared.Found.{Found}
+use Rattle.response.specs.declared.Found.the-variants as Found
+use Rattle.response.specs.Bound.{IsBound, NoBound, boundOf}
+use Rattle.response.proofs.Meets.{bound-is, bound-none}
+use Rattle.bounds.specs.Asked.{orThirteen, oneAnswer}
+use Rattle.events.specs.declared.Event.{Event}
+use Rattle.events.specs.declared.Reading.the-variants as R
+use Rattle.events.specs.Record.{readRecord}
+use Rattle.logs.specs.Log.{readable}
+use Rattle.logs.proofs.Rests.{rest-end}
+use Rattle.states.specs.declared.State.{State}
+use Rattle.effects.specs.declared.Applied.{Applied}
+use Rattle.effects.specs.Apply.{applied}
+use Rattle.effects.specs.Log.{standing, ranOver}
+use Rattle.wording.specs.Fields.{fieldOf}
+use Rattle.wording.specs.Words.{boundWord, noBoundWord}
+use Rattle.listing_text.specs.TaskLines.{boundText}
+use Rattle.listing_text.specs.RefusalLines.{tooLong, refusedLine, stopLine}
+use Rattle.listing_text.specs.LogLines.{stateAfter, stopText}
+use Rattle.listing_text.specs.Listing.{tableThere, tableBytes, eventBytes, tableListing, listed, listingOf}
+
+-- ---- bound or `-`
+
+module _ (t : Table) (good : judged t ≡ Accepted) (i : ℕ) (h : i < t .count) where
+  shown : boundText (oneAnswer t i) ≡ boundText (orThirteen (boundOf t i) i)
+  unfolding oneAnswer
+  shown = rw (good, lt-ltb i (t .count) h)
+
+  pub bound-shown : (r : ℕ) → IsBound t i r → boundText (oneAnswer t i) ≡ fieldOf boundWord r
+  bound-shown r b =
+      let e : boundOf t i ≡ Found.At r = bound-is t i r .1 b in
+      shown ∙ rw e
+
+  pub dash-shown : NoBound t i → boundText (oneAnswer t i) ≡ noBoundWord
+  dash-shown b =
+      let e : boundOf t i ≡ Found.Nothing = bound-none t i .1 b in
+      shown ∙ rw e
+
+-- ---- the state at the end is the one that applying the log gives
+
+ran-by : (a : Applied) (es : List Event) → stateAfter (a .state) es ≡ ranOver a es .state
+unfolding stateAfter ranOver
+ran-by a [] = refl
+ran-by a (e ∷ es) = ran-by (applied (a .state) e) es
+
+pub state-ran : (s : State) (es : List Event) → stateAfter s es ≡ ranOver (standing s) es .state
+state-ran s es = ran-by (standing s) es
+
+-- ---- `stop N at O`
+
+-- no line at a clean end
+pub stop-none : (log : List ℕ) → 20 * readable log ≡ length log → stopText log ≡ []
+unfolding stopText
+stop-none log e = rw (rest-end log .1 e)
+
+-- a record that does not read gives its number, and the offset is that of its first byte
+pub stop-some : (log : List ℕ) (n : ℕ) → readRecord (drop (20 * readable log) log) ≡ R.Refused n → stopText log ≡ stopLine n (20 * readable log)
+unfolding stopText
+stop-some log n e = rw e
+
+-- ---- the whole
+
+pub too-long-only : (s : List ℕ) → 65536 < length s → listingOf s ≡ tooLong
+unfolding listingOf
+too-long-only s h = rw (lt-ltb 65536 (length s) h)
+
+module _ (s : List ℕ) (h : length s ≤ 65536) where
+  -- missing or short table bytes, or n outside 1 to 16, are refusal 1
+  pub table-missing : tableThere s ≡ false → listingOf s ≡ refusedLine 1 0
+  unfolding listingOf
+  table-missing e = rw (le-ltb 65536 (length s) h, e)
+
+  pub table-refused : (n p : ℕ) → tableThere s ≡ true → readTable (tableBytes s) .answer ≡ Refused n p → listingOf s ≡ refusedLine n p
+  unfolding listingOf listed
+  table-refused n p e q = rw (le-ltb 65536 (length s) h, e, q)
+
+  pub table-listed : tableThere s ≡ true → readTable (tableBytes s) .answer ≡ Accepted → listingOf s ≡ tableListing (readTable (tableBytes s) .table) (eventBytes s)
+  unfolding listingOf listed
+  table-listed e q = rw (le-ltb 65536 (length s) h, e, q)
