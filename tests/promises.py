@@ -21,7 +21,9 @@ def sources(kind, suffix):
 
 # ---- what there is
 
-edits = {p.stem: p.parent.parent.name for p in CRATES.glob("*/must-fail/*.edit")}
+edits = {}  # by an edit's name: the crates that have one of that name
+for path in CRATES.glob("*/must-fail/*.edit"):
+    edits.setdefault(path.stem, set()).add(path.parent.parent.name)
 crates = {p.name for p in CRATES.iterdir() if p.is_dir()}
 declared = {}  # by a file's name: the definitions and theorems in it
 for path in sources("specs", ".antt") + sources("proofs", ".antt"):
@@ -60,6 +62,15 @@ def check_line(at, line, edit_column):
     for stem, token in re.findall(r"`([A-Z]\w+)\.([\w-]+)`", line):
         if stem in declared and token not in declared[stem]:
             missing.append(f"{at}: `{token}` is not in {stem}")
+    # `crate` File: the file stands in that crate
+    for crate, stem in re.findall(r"`(\w+)` ([A-Z]\w+) `", line):
+        if crate in crates and not any((CRATES / crate / kind / f"{stem}.antt").exists() for kind in ("specs", "proofs")):
+            missing.append(f"{at}: {stem} is not in `{crate}`")
+    # `crate`: `edit`, `edit`: the edits stand in that crate
+    for crate, tokens in re.findall(r"`(\w+)`: ((?:`\w+`(?:, )?)+)", line):
+        for token in re.findall(r"`(\w+)`", tokens):
+            if crate in crates and token in edits and crate not in edits[token]:
+                missing.append(f"{at}: `{token}` is no edit of `{crate}`")
     if edit_column:
         for token in re.findall(r"`([^`]+)`", line.strip().strip("|").split("|")[-1]):
             if token not in edits and token not in crates:
@@ -77,7 +88,7 @@ for number, line in enumerate(read(ROOT / "docs/PROMISES.md").splitlines(), 1):
 told = set(re.findall(r"`(\w+)`", read(ROOT / "docs/PROMISES.md")))
 for name in sorted(edits):
     if name not in told:
-        missing.append(f"crates/{edits[name]}/must-fail/{name}.edit is named by no promise")
+        missing.append(f"the edit {name} of {', '.join(sorted(edits[name]))} is named by no promise")
 
 # ---- public functions
 
@@ -115,5 +126,5 @@ for crate in sorted(p.parent.parent for p in CRATES.glob("*/src/lib.rt")):
                     missing.append(f"{at}: nothing is said of what {lent} holds afterwards")
 
 print("\n".join(missing))
-print(f"{len(edits)} edits, {count} public functions, {len(missing)} missing")
+print(f"{sum(len(x) for x in edits.values())} edits, {count} public functions, {len(missing)} missing")
 sys.exit(1 if missing else 0)
