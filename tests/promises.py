@@ -110,7 +110,7 @@ decisions = read(ROOT / "docs/DECISIONS.md")
 count = 0
 for crate in sorted(p.parent.parent for p in CRATES.glob("*/src/lib.rt")):
     for path in public_files(crate):
-        for match in re.finditer(r'^pub (?:extern "C" )?fn (\w+)\((.*?)\)(.*?)^\{', read(path), re.M | re.S):
+        for match in re.finditer(r'^pub (?:extern "C" )?fn (\w+)\((.*?)\)(.*?)(?:^\{|\{$)', read(path), re.M | re.S):
             name, parameters, clauses = match.groups()
             at = f"{path.relative_to(ROOT)}: {name}"
             count += 1
@@ -118,7 +118,8 @@ for crate in sorted(p.parent.parent for p in CRATES.glob("*/src/lib.rt")):
             if "requires {" in clauses and not excepted:
                 missing.append(f"{at} has a `requires`")
             if "ensures {" not in clauses:
-                missing.append(f"{at} has no contract")
+                if not excepted:
+                    missing.append(f"{at} has no contract")
             elif not re.search(r"\br ≡ |≡ ", clauses):
                 missing.append(f"{at}: its contract is no equation")
             for lent in re.findall(r"(\w+): &mut", parameters):

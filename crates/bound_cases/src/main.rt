@@ -4,21 +4,20 @@ use libc::STDIN_FILENO;
 use libc::STDOUT_FILENO;
 use tables::Answer;
 use tables::Table;
-ghost use Prim.Native.Nat.{_<_};
 
 fn text(words: &[u8]) {
     io::write_all(STDOUT_FILENO, words);
 }
 
-fn number(n: u64) {
+// Words, then a number.
+fn number(words: &[u8], n: u64) {
+    io::write_all(STDOUT_FILENO, words);
     io::print_decimal(STDOUT_FILENO, n);
 }
 
-fn refusal(n: u8, p: usize) {
-    text(b"refused ");
-    number(n as u64);
-    text(b" at ");
-    number(p as u64);
+fn refusal(words: &[u8], n: u8, p: usize) {
+    number(words, n as u64);
+    number(b" at ", p as u64);
 }
 
 fn told(answer: Answer) {
@@ -27,27 +26,28 @@ fn told(answer: Answer) {
         Answer::Refused {
             number: n,
             position: p,
-        } => refusal(n, p),
+        } => refusal(b"refused ", n, p),
     }
 }
 
-// A task's bound, `-` where just that task has none, and any other refusal.
+// `-` where just the task that was asked has no bound, and any other refusal.
+fn boundless(n: u8, p: usize, k: usize) {
+    if n == 13 {
+        if p == k {
+            text(b" -");
+            return;
+        }
+    }
+    refusal(b" refused ", n, p);
+}
+
 fn bound(table: Table, k: usize) {
-    text(b" ");
     match bounds::of_table::bound(table, k) {
-        Bound::At(r) => number(r as u64),
+        Bound::At(r) => number(b" ", r as u64),
         Bound::Refused {
             number: n,
             position: p,
-        } => {
-            if n == 13 {
-                if p == k {
-                    text(b"-");
-                    return;
-                }
-            }
-            refusal(n, p);
-        }
+        } => boundless(n, p, k),
     }
 }
 
@@ -70,7 +70,7 @@ fn cell(value: u32) {
     if value == LENT {
         text(b".");
     } else {
-        number(value as u64);
+        number(b"", value as u64);
         text(b" ");
     }
 }
@@ -159,28 +159,16 @@ fn one(bytes: &[u8]) {
     text(b"\n");
 }
 
-fn wide(byte: u8) -> usize
-    ensures { λ r. ⌜ r < 256 ⌝ }
-{
-    byte as usize
-}
-
-fn each(input: &[u8]) {
+fn each(all: &[u8]) {
     let mut at: usize = 0;
-    while at + 2 <= input.len() {
-        let size = wide(input[at]) + 256 * wide(input[at + 1]);
-        let from = at + 2;
-        if input.len() - from < size {
-            return;
-        }
-        let to = from + size;
-        one(&input[from..to]);
-        at = to;
+    while at < all.len() {
+        one(frames::part(all, at));
+        at = frames::end(all, at);
     }
 }
 
 fn main() {
-    let mut input = [0u8; 65536];
+    let mut input = io::large_buffer();
     let n = io::read_full(STDIN_FILENO, &mut input);
     each(&input[..n]);
 }

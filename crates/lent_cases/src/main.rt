@@ -1,35 +1,28 @@
-// Made-up events to the engine by value and to the engine in place, side by side: the first difference, or how many came out the same, and how often each answer came.
-mod dice;
-mod events_of;
-mod runs;
-mod same;
-
+// The two engines side by side: the first difference, or how many events came out the same, and how often each answer came.
 use libc::STDOUT_FILENO;
 
 fn text(words: &[u8]) {
     io::write_all(STDOUT_FILENO, words);
 }
 
-fn number(n: u64) {
+// Words, then a number.
+fn number(words: &[u8], n: u64) {
+    io::write_all(STDOUT_FILENO, words);
     io::print_decimal(STDOUT_FILENO, n);
 }
 
 fn line(n: usize, times: u64) {
-    if n < 16 {
+    if n == 16 {
+        number(b"run: ", times);
+    } else if n == 17 {
+        number(b"idle: ", times);
+    } else {
         if times == 0 {
             return;
         }
-        text(b"refused ");
-        number(n as u64);
+        number(b"refused ", n as u64);
+        number(b": ", times);
     }
-    if n == 16 {
-        text(b"run");
-    }
-    if n == 17 {
-        text(b"idle");
-    }
-    text(b": ");
-    number(times);
     text(b"\n");
 }
 
@@ -42,13 +35,12 @@ fn lines(seen: [u64; 18]) {
 }
 
 fn main() {
-    let walk = runs::all();
+    let walk = side_by_side::runs::all();
     if walk.same {
-        number(walk.events);
+        number(b"", walk.events);
         text(b" events, same answers and states\n");
     } else {
-        text(b"the answers or the states differ at event ");
-        number(walk.events);
+        number(b"the answers or the states differ at event ", walk.events);
         text(b"\n");
     }
     let seen = walk.seen;

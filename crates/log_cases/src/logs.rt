@@ -7,8 +7,6 @@ use event_writing::Writing;
 use events::Event;
 use events::Reading;
 use std::num::wrapping_add_u64;
-ghost use Prim.Native.Nat.{_+_, _≤_};
-ghost use lib.ListN.{length};
 
 // What the readable records add up to, with how many are the same bytes once they are written again.
 struct Sums {
@@ -99,12 +97,8 @@ fn place(log: &[u8], i: usize) {
 fn places(log: &[u8], count: usize) {
     let mut i: usize = 0;
     while i < count {
-        if i < 6 {
+        if (i < 6) | (i % 100 == 99) {
             place(log, i);
-        } else {
-            if i % 100 == 99 {
-                place(log, i);
-            }
         }
         i += 1;
     }
@@ -147,28 +141,12 @@ fn one(k: u64, log: &[u8]) {
     );
 }
 
-// The size that stands before a log, or what there is of the log.
-fn size_of(input: &[u8]) -> usize
-    requires { ⌜ 2 ≤ length (now input) ⌝ }
-    ensures { λ r. ⌜ r + 2 ≤ length (now (input .entry)) ⌝ }
-{
-    let size = wide(input[0]) + 256 * wide(input[1]);
-    let there = input.len() - 2;
-    if size < there as u64 {
-        size as usize
-    } else {
-        there
-    }
-}
-
-pub fn each(input: &[u8]) {
+pub fn each(all: &[u8]) {
     let mut at: usize = 0;
     let mut k: u64 = 1;
-    while at + 2 <= input.len() {
-        let from = at + 2;
-        let to = from + size_of(&input[at..]);
-        one(k, &input[from..to]);
+    while at < all.len() {
+        one(k, frames::part(all, at));
         k = wrapping_add_u64(k, 1);
-        at = to;
+        at = frames::end(all, at);
     }
 }

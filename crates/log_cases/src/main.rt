@@ -6,7 +6,7 @@ mod values;
 use libc::STDIN_FILENO;
 
 fn main() {
-    let mut input = [0u8; 65537];
+    let mut input = io::large_buffer();
     let size = io::read_full(STDIN_FILENO, &mut input);
     logs::each(&input[..size]);
     values::each();

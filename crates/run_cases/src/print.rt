@@ -5,6 +5,8 @@ pub fn text(words: &[u8]) {
     io::write_all(STDOUT_FILENO, words);
 }
 
-pub fn number(n: u64) {
+// Words, then a number.
+pub fn number(words: &[u8], n: u64) {
+    io::write_all(STDOUT_FILENO, words);
     io::print_decimal(STDOUT_FILENO, n);
 }

@@ -15,16 +15,11 @@ fn answer(said: Answer) {
             position: p,
             class: c,
         } => {
-            text(b" run ");
-            number(p as u64);
-            text(b" class ");
-            number(c as u64);
+            number(b" run ", p as u64);
+            number(b" class ", c as u64);
         }
         Answer::Idle => text(b" idle"),
-        Answer::Refused(n) => {
-            text(b" refused ");
-            number(n as u64);
-        }
+        Answer::Refused(n) => number(b" refused ", n as u64),
     }
 }
 
@@ -50,23 +45,13 @@ fn events_on(first: State, log: &[u8]) -> State {
 }
 
 fn task(record: Record) {
-    text(b" met ");
-    number(record.met);
-    text(b" missed ");
-    number(record.missed);
-    if record.live {
-        text(b" open 1");
-    } else {
-        text(b" open 0");
-    }
-    text(b" class ");
-    number(levels::class(record.level) as u64);
-    text(b" run ");
-    number(record.run as u64);
-    text(b" window ");
-    number(window(record) as u64);
-    text(b" broken ");
-    number(record.broken);
+    number(b" met ", record.met);
+    number(b" missed ", record.missed);
+    number(b" open ", record.live as u64);
+    number(b" class ", levels::class(record.level) as u64);
+    number(b" run ", record.run as u64);
+    number(b" window ", window(record) as u64);
+    number(b" broken ", record.broken);
     text(b"\n");
 }
 
@@ -88,8 +73,7 @@ fn whole(state: State, log: &[u8]) {
     let ran = engine::log::run(state, log);
     let said = ran.answer;
     answer(said);
-    text(b" clock ");
-    number(ran.state.clock);
+    number(b" clock ", ran.state.clock);
     text(b"\n");
 }
 

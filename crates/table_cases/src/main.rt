@@ -4,13 +4,14 @@ use libc::STDOUT_FILENO;
 use tables::Answer;
 use tables::Table;
 use tables::Task;
-ghost use Prim.Native.Nat.{_<_};
 
 fn text(words: &[u8]) {
     io::write_all(STDOUT_FILENO, words);
 }
 
-fn number(n: u64) {
+// Words, then a number.
+fn number(words: &[u8], n: u64) {
+    io::write_all(STDOUT_FILENO, words);
     io::print_decimal(STDOUT_FILENO, n);
 }
 
@@ -21,21 +22,16 @@ fn refusal(answer: Answer) {
             number: n,
             position: p,
         } => {
-            text(b"refused ");
-            number(n as u64);
-            text(b" at ");
-            number(p as u64);
+            number(b"refused ", n as u64);
+            number(b" at ", p as u64);
         }
     }
 }
 
 fn thresholds_of(task: Task) {
-    text(b" ");
-    number(thresholds::w(task.m, task.k) as u64);
-    text(b"/");
-    number(thresholds::h(task.m, task.k) as u64);
-    text(b"/");
-    number(thresholds::top(task.m, task.k) as u64);
+    number(b" ", thresholds::w(task.m, task.k) as u64);
+    number(b"/", thresholds::h(task.m, task.k) as u64);
+    number(b"/", thresholds::top(task.m, task.k) as u64);
 }
 
 fn thresholds(table: Table) {
@@ -110,28 +106,16 @@ fn one(bytes: &[u8]) {
     text(b"\n");
 }
 
-fn wide(byte: u8) -> usize
-    ensures { λ r. ⌜ r < 256 ⌝ }
-{
-    byte as usize
-}
-
 fn each(all: &[u8]) {
     let mut at: usize = 0;
-    while at + 2 <= all.len() {
-        let size = wide(all[at]) + 256 * wide(all[at + 1]);
-        let from = at + 2;
-        if all.len() - from < size {
-            return;
-        }
-        let to = from + size;
-        one(&all[from..to]);
-        at = to;
+    while at < all.len() {
+        one(frames::part(all, at));
+        at = frames::end(all, at);
     }
 }
 
 fn main() {
-    let mut input = [0u8; 65536];
+    let mut input = io::large_buffer();
     let n = io::read_full(STDIN_FILENO, &mut input);
     each(&input[..n]);
 }

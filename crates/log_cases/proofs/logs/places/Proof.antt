@@ -16,9 +16,6 @@ loop-holds c = search needs
 place-requires : tie.Need-place-requires Inv-loop μ-loop
 place-requires c κs = search needs
 
-place-requires-2 : tie.Need-place-requires-2 Inv-loop μ-loop
-place-requires-2 c κs = search needs
-
 add-i : tie.Need-add-i Inv-loop μ-loop
 add-i c = search needs
 
@@ -39,7 +36,6 @@ places-spec =
     μ-loop
     loop-holds
     place-requires
-    place-requires-2
     add-i
     loop-less
     loop-again
