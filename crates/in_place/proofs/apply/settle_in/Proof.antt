@@ -69,7 +69,7 @@ use Rattle.rulings.proofs.Prompt.{seat-below}
 use Rattle.in_place.proofs.Turns.{settles-on, settled-at, settled-tells}
 use Rattle.lent.proofs.While.{tests, scaled}
 use Rattle.jobs.proofs.opening.expire.Symbol as expire-def
-use Rattle.jobs.proofs.opening.expire.Symbol.{name as #records·opening·expire}
+use Rattle.jobs.proofs.opening.expire.Symbol.{name as #jobs·opening·expire}
 use Rattle.jobs.proofs.opening.expire.Met as expire-thm
 use Rattle.states.proofs.choice.better_of.Symbol as better-of-def
 use Rattle.states.proofs.choice.better_of.Symbol.{name as #states·choice·better-of}
@@ -109,7 +109,7 @@ L k = 1 + L₀ k
 module _ {M : Type 1} (𝓤 : URA M) (H : Heap 𝓤) (A : Atoms 𝓤) (at-mem : Memory → SProp 𝓤) (run : Routine → Fun 𝓤) (𝓣 : Tables 𝓤 H) where
   -- the callees meet their contracts
   record Known : Type 2 where
-    pub expire : Triple 𝓤 (𝓣 .C #records·opening·expire) (Expire 𝓤 H A at-mem run)
+    pub expire : Triple 𝓤 (𝓣 .C #jobs·opening·expire) (Expire 𝓤 H A at-mem run)
     pub no-best : Triple 𝓤 (𝓣 .C #lent·choice·no-best) (NoBest 𝓤 H A at-mem run)
     pub better-of : Triple 𝓤 (𝓣 .C #states·choice·better-of) (BetterOf 𝓤 H A at-mem run)
     pub seat-of : Triple 𝓤 (𝓣 .C #in-place·steps·seat-of) (SeatOf 𝓤 H A at-mem run)
@@ -351,7 +351,7 @@ settle-in-spec 𝓤 H 𝓜 𝓖 𝓡 =
     (tables 𝓤 H 𝓜 𝓡 code.env .C) (tables 𝓤 H 𝓜 𝓡 code.env .Λ) #in-place·apply·settle-in code.function (code.unfolded 𝓤 H 𝓜 𝓡)
     (settle-in-meets 𝓤 H (𝓖 .A) (givenOf 𝓤 H 𝓜 𝓖) (𝓜 .mem) (𝓡 .run) (tablesOf 𝓤 H 𝓜 (tables 𝓤 H 𝓜 𝓡 code.env))
     (record {
-      expire = cited 𝓤 H (Expire 𝓤 H (𝓖 .A) (𝓜 .mem) (𝓡 .run)) 𝓜 𝓡 code.env #records·opening·expire expire-def.routine code.calls-records·opening·expire (expire-thm.met 𝓤 H 𝓜 𝓖 𝓡);
+      expire = cited 𝓤 H (Expire 𝓤 H (𝓖 .A) (𝓜 .mem) (𝓡 .run)) 𝓜 𝓡 code.env #jobs·opening·expire expire-def.routine code.calls-jobs·opening·expire (expire-thm.met 𝓤 H 𝓜 𝓖 𝓡);
       no-best = cited 𝓤 H (NoBest 𝓤 H (𝓖 .A) (𝓜 .mem) (𝓡 .run)) 𝓜 𝓡 code.env #lent·choice·no-best no-best-def.routine code.calls-lent·choice·no-best (no-best-thm.met 𝓤 H 𝓜 𝓖 𝓡);
       better-of = cited 𝓤 H (BetterOf 𝓤 H (𝓖 .A) (𝓜 .mem) (𝓡 .run)) 𝓜 𝓡 code.env #states·choice·better-of better-of-def.routine code.calls-states·choice·better-of (better-of-thm.met 𝓤 H 𝓜 𝓖 𝓡);
       seat-of = cited 𝓤 H (SeatOf 𝓤 H (𝓖 .A) (𝓜 .mem) (𝓡 .run)) 𝓜 𝓡 code.env #in-place·steps·seat-of seat-of-def.routine code.calls-in-place·steps·seat-of (seat-of-thm.met 𝓤 H 𝓜 𝓖 𝓡);

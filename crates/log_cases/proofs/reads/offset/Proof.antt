@@ -2,8 +2,8 @@
 use native.Mathlib.Omega.{arith}
 use borrow.Author.Needs.{needs}
 use lib.ListN.{length-drop}
-use Rattle.log_cases.proofs.logs.offset.Statement.{statement}
-use Rattle.log_cases.proofs.logs.offset.Tie as tie
+use Rattle.log_cases.proofs.reads.offset.Statement.{statement}
+use Rattle.log_cases.proofs.reads.offset.Tie as tie
 
 rest-requires : tie.Need-rest-requires
 rest-requires c κs = search needs

@@ -1,8 +1,8 @@
 -- `log_cases::logs::alike` is safe and ends: 20 turns, within both slices.
 use Prim.Native.Nat.{_-_, _≤_}
 use borrow.Author.Needs.{needs}
-use Rattle.log_cases.proofs.logs.alike.Statement.{statement}
-use Rattle.log_cases.proofs.logs.alike.Tie as tie
+use Rattle.log_cases.proofs.reads.alike.Statement.{statement}
+use Rattle.log_cases.proofs.reads.alike.Tie as tie
 
 abbrev Inv-loop : tie.InvT-loop
 Inv-loop a b i₀ i = i ≤ 20

@@ -2,8 +2,8 @@
 use Prim.Native.Nat.{_-_}
 use lib.ListN.{length}
 use borrow.Author.Needs.{needs}
-use Rattle.log_cases.proofs.logs.each.Statement.{statement}
-use Rattle.log_cases.proofs.logs.each.Tie as tie
+use Rattle.log_cases.proofs.reads.each.Statement.{statement}
+use Rattle.log_cases.proofs.reads.each.Tie as tie
 
 abbrev Inv-loop : tie.InvT-loop
 Inv-loop all at₀ k₀ at k = Unit

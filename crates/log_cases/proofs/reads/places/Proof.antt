@@ -1,8 +1,8 @@
 -- `log_cases::logs::places` is safe and ends: `i` stays at or below the count.
 use Prim.Native.Nat.{_-_, _≤_}
 use borrow.Author.Needs.{needs}
-use Rattle.log_cases.proofs.logs.places.Statement.{statement}
-use Rattle.log_cases.proofs.logs.places.Tie as tie
+use Rattle.log_cases.proofs.reads.places.Statement.{statement}
+use Rattle.log_cases.proofs.reads.places.Tie as tie
 
 abbrev Inv-loop : tie.InvT-loop
 Inv-loop log count i₀ i = i ≤ count

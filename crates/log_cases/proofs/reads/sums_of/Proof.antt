@@ -2,8 +2,8 @@
 use Prim.Native.Nat.{_-_}
 use borrow.Author.Needs.{needs}
 use lib.ListN.{length}
-use Rattle.log_cases.proofs.logs.sums_of.Statement.{statement}
-use Rattle.log_cases.proofs.logs.sums_of.Tie as tie
+use Rattle.log_cases.proofs.reads.sums_of.Statement.{statement}
+use Rattle.log_cases.proofs.reads.sums_of.Tie as tie
 
 abbrev Inv-loop : tie.InvT-loop
 Inv-loop log sums₀ at₀ sums at = Unit
