@@ -6,6 +6,8 @@ import random
 import struct
 import sys
 
+from frames import store
+
 LIMIT = 1_000_000
 
 
@@ -108,19 +110,15 @@ def cases():
 
 
 def main():
-    data, lines = b"", []
+    parts, lines = [], []
     for rows in cases():
         case = b"".join(record(*row) for row in rows)
-        data += struct.pack("<H", len(case)) + case
+        parts.append(case)
         lines.append(told(rows))
     # a table that does not read
-    data += struct.pack("<H", 16) + record(0, 1, 1, 0, 1)
+    parts.append(record(0, 1, 1, 0, 1))
     lines.append("refused 3 at 0")
-    assert len(data) <= 65536
-    with open(f"{sys.argv[1]}/stdin", "wb") as f:
-        f.write(data)
-    with open(f"{sys.argv[1]}/stdout", "w") as f:
-        f.write("".join(line + "\n" for line in lines))
+    store(sys.argv[1], parts, lines)
 
 
 main()

@@ -3,8 +3,9 @@
 
 The records are drawn from a generator with a fixed seed; what is expected of them is worked out here, from the bytes, by the rules
 of document 01: record of 20 bytes, refusals 5, 6, 7, 8 in this order, an empty rest is the end."""
-import pathlib
 import sys
+
+from frames import store
 
 WRAP = 1 << 64
 LIMIT = 10 ** 12
@@ -133,15 +134,12 @@ def values():
 
 
 def main():
-    data, lines = b"", []
+    parts, lines = [], []
     for k, log in enumerate(logs(), 1):
-        data += len(log).to_bytes(2, "little") + log
+        parts.append(log)
         lines += expected(k, log)
     lines += values()
-    assert len(data) <= 65536
-    folder = pathlib.Path(sys.argv[1])
-    (folder / "stdin").write_bytes(data)
-    (folder / "stdout").write_text("\n".join(lines) + "\n")
+    store(sys.argv[1], parts, lines)
 
 
 if __name__ == "__main__":

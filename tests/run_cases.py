@@ -7,6 +7,8 @@ import random
 import struct
 import sys
 
+from frames import store
+
 LIMIT = 10**12
 
 
@@ -155,18 +157,13 @@ def cases():
 
 
 def main():
-    data, lines = b"", []
+    parts, lines = [], []
     for rows, events in cases():
         table = b"".join(b"\x54\x4b" + struct.pack("<IIIBB", *row) for row in rows)
         log = b"".join(record(*e) for e in events)
-        for part in (table, log):
-            data += struct.pack("<H", len(part)) + part
+        parts += [table, log]
         lines += told(rows, events)
-    assert len(data) <= 65536, len(data)
-    with open(f"{sys.argv[1]}/stdin", "wb") as f:
-        f.write(data)
-    with open(f"{sys.argv[1]}/stdout", "w") as f:
-        f.write("".join(line + "\n" for line in lines))
+    store(sys.argv[1], parts, lines)
 
 
 main()

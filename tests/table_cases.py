@@ -7,6 +7,8 @@ import random
 import struct
 import sys
 
+from frames import store
+
 LIMIT = 1_000_000
 
 
@@ -92,15 +94,11 @@ def cases():
 
 
 def main():
-    data, lines = b"", []
+    parts, lines = [], []
     for case in cases():
-        data += struct.pack("<H", len(case)) + case
+        parts.append(case)
         lines.append(told(case))
-    assert len(data) <= 65536
-    with open(f"{sys.argv[1]}/stdin", "wb") as f:
-        f.write(data)
-    with open(f"{sys.argv[1]}/stdout", "w") as f:
-        f.write("".join(line + "\n" for line in lines))
+    store(sys.argv[1], parts, lines)
 
 
 main()
