@@ -34,8 +34,8 @@ pub fn better_of(best: Best, record: Record, at: usize) -> Best
     best
 }
 
-// A state has 16 places, whatever it counts.
-fn places(count: usize) -> usize
+// A state has 16 places, and so has a table, whatever it counts.
+pub fn places(count: usize) -> usize
     ensures { λ r. ⌜ r ≡ min count 16 ⌝ }
 {
     if 16 < count { 16 } else { count }

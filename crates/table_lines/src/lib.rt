@@ -1,18 +1,12 @@
 // One line per task, of a table and of a state: all lines of a kind put into the lent bytes from a place on; the answer is the place behind them.
 use bounds::of_table::bound;
 use states::State;
+use states::choice::places;
 use tables::Table;
 ghost use mathlib.Core.Path.{_≡_};
 ghost use Prim.Native.Nat.{min};
 ghost use Rattle.texts.specs.Sheet.{sheet, puts};
 ghost use Rattle.listing_text.specs.TableLines.{taskLines, lastLines};
-
-// There are 16 places, whatever is counted.
-fn places(count: usize) -> usize
-    ensures { λ r. ⌜ r ≡ min count 16 ⌝ }
-{
-    if 16 < count { 16 } else { count }
-}
 
 // One line per task, with its bound.
 pub fn tasks(out: &mut [u8], at: usize, table: Table) -> usize
