@@ -115,30 +115,11 @@ def logs():
     yield b"".join(good(draw) for _ in range(2960)) + bad(draw, 4) + good(draw)
 
 
-def values():
-    for kind in (0, 1, 2, 3, 255):
-        for task in (0, 1, 255):
-            for job in (0, 1, WRAP - 1):
-                for room in (0, 19, 20, 24):
-                    number = fault(kind, task, job)
-                    out = bytearray(b"\x5a" * 24)
-                    if number == 0 and room < 20:
-                        said = "refused 14"
-                    elif number:
-                        said = "refused %d" % number
-                    else:
-                        said = "written"
-                        out[:20] = record(kind, task, job, LIMIT)
-                    yield "value %d %d %d %d %d" % (kind, task, job, room, number)
-                    yield "%s sum %d" % (said, sum(out))
-
-
 def main():
     parts, lines = [], []
     for k, log in enumerate(logs(), 1):
         parts.append(log)
         lines += expected(k, log)
-    lines += values()
     store(sys.argv[1], parts, lines)
 
 

@@ -120,7 +120,7 @@ for crate in sorted(p.parent.parent for p in CRATES.glob("*/src/lib.rt")):
             if "ensures {" not in clauses:
                 if not excepted:
                     missing.append(f"{at} has no contract")
-            elif not re.search(r"\br ≡ |≡ ", clauses):
+            elif not excepted and not re.search(r"\br ≡ |≡ ", clauses):
                 missing.append(f"{at}: its contract is no equation")
             for lent in re.findall(r"(\w+): &mut", parameters):
                 if f"{lent} .exit" not in clauses:

@@ -1,8 +1,8 @@
 -- `log_cases::values::each` is safe and ends: 180 turns.
 use Prim.Native.Nat.{_-_, _≤_}
 use borrow.Author.Needs.{needs}
-use Rattle.log_cases.proofs.values.each.Statement.{statement}
-use Rattle.log_cases.proofs.values.each.Tie as tie
+use Rattle.value_cases.proofs.values.each.Statement.{statement}
+use Rattle.value_cases.proofs.values.each.Tie as tie
 
 abbrev Inv-loop : tie.InvT-loop
 Inv-loop i₀ i = i ≤ 180

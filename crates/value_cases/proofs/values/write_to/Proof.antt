@@ -2,8 +2,8 @@
 use native.Mathlib.Omega.{arith}
 use borrow.Author.Needs.{needs}
 use lib.ListN.{length-take}
-use Rattle.log_cases.proofs.values.write_to.Statement.{statement}
-use Rattle.log_cases.proofs.values.write_to.Tie as tie
+use Rattle.value_cases.proofs.values.write_to.Statement.{statement}
+use Rattle.value_cases.proofs.values.write_to.Tie as tie
 
 returns : tie.Need-returns
 returns c = search needs

@@ -2,8 +2,8 @@
 use Prim.Native.Nat.{_-_, _≤_}
 use borrow.Author.Needs.{needs}
 use lib.ListN.{length}
-use Rattle.log_cases.proofs.values.sum.Statement.{statement}
-use Rattle.log_cases.proofs.values.sum.Tie as tie
+use Rattle.value_cases.proofs.values.sum.Statement.{statement}
+use Rattle.value_cases.proofs.values.sum.Tie as tie
 
 abbrev Inv-loop : tie.InvT-loop
 Inv-loop bytes total₀ i₀ total i = i ≤ length bytes

@@ -1,0 +1,7 @@
+// Prints how the library judges and writes each of a list of event values.
+mod print;
+mod values;
+
+fn main() {
+    values::each();
+}
