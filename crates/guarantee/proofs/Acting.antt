@@ -17,9 +17,9 @@ use Rattle.jobs.specs.Opening.{expired, opened}
 use Rattle.soundness.proofs.Kept.{end}
 use Rattle.rulings.specs.Steps.{tooSoon, reopened}
 use Rattle.effects.proofs.Kept.{spaced-by}
-use Rattle.guarantee.specs.History.{Job, closedJob}
-use Rattle.guarantee.proofs.Steps.{closed-idle, cleared, cleared-open, cleared-none, cleared-same, cleared-idle, Expired, over, stays, expiry, expired-same, expired-open}
-use Rattle.guarantee.proofs.Closes.{jobsWith, closes-none, closes-stays, closes-idle, closes-next, other-kind, other-task, completed}
+use Rattle.histories.specs.History.{Job, closedJob}
+use Rattle.histories.proofs.Steps.{closed-idle, cleared, cleared-open, cleared-none, cleared-same, cleared-idle, Expired, over, stays, expiry, expired-same, expired-open}
+use Rattle.histories.proofs.Closes.{jobsWith, closes-none, closes-stays, closes-idle, closes-next, other-kind, other-task, completed}
 use Rattle.guarantee.proofs.Busy.{keep, add}
 use Rattle.guarantee.proofs.Required.{isDue, due-intro, due-live, due-class, above-required, Fine, begun, fine-later, fine-missed, fine-met, fine-opened}
 use Rattle.guarantee.proofs.Levels.{upTo, Moment, costs, Level, viewOf, Steady, Given}

@@ -13,7 +13,7 @@ use Rattle.laws.specs.Numbers.{ceiling}
 use Rattle.laws.specs.Sums.{total}
 use Rattle.tables.specs.declared.Task.{Task}
 use Rattle.records.specs.declared.Record.{Record}
-use Rattle.guarantee.specs.History.{Job}
+use Rattle.histories.specs.History.{Job}
 use Rattle.guarantee.proofs.Sums.{total-shift}
 use Rattle.guarantee.proofs.Busy.{View, Busy, share, cond-yes, cond-mono}
 use Rattle.guarantee.proofs.Required.{isDue, Fine, Gates}

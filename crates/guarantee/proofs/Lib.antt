@@ -1,10 +1,4 @@
--- The theorems on runs, from one event up to the guarantee.
-pub mod Steps
-pub mod Closes
-pub mod Taken
-pub mod Reached
-pub mod InOrder
-pub mod Jobs
+-- The theorems on runs under the premise, up to the guarantee.
 pub mod Sums
 pub mod Busy
 pub mod Required

@@ -28,11 +28,11 @@ use Rattle.response.specs.Fits.{firstFit}
 use Rattle.demands.specs.Demand.{demand}
 use Rattle.bounds.specs.Asked.{boundCell, allAnswer}
 use Rattle.effects.specs.Apply.{ticked, releasedAt, completedAt, byKind, timed, acted, applied}
-use Rattle.guarantee.specs.History.{Job, stateAfter, recordAfter, jobsOf}
+use Rattle.histories.specs.History.{Job, stateAfter, recordAfter, jobsOf}
 use Rattle.guarantee.specs.ChosenTime.{standing, chosenTime}
 use Rattle.guarantee.specs.Premise.{Premise}
 use Rattle.guarantee.specs.Guarantee.{Promise}
-use Rattle.guarantee.proofs.InOrder.{onto}
+use Rattle.histories.proofs.InOrder.{onto}
 use Rattle.guarantee.proofs.Trying.{shortTo, obeysAt, premise-by}
 use Rattle.guarantee.proofs.Theorem.{guarantee}
 

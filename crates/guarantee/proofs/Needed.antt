@@ -32,7 +32,7 @@ use Rattle.demands.specs.Demand.{demand}
 use Rattle.bounds.specs.declared.Bound.the-variants as Bound
 use Rattle.bounds.specs.Asked.{allAnswer, oneAnswer}
 use Rattle.effects.specs.Apply.{ticked, releasedAt, completedAt, byKind, timed, acted, applied}
-use Rattle.guarantee.specs.History.{Job, stateAfter, recordAfter, jobsOf}
+use Rattle.histories.specs.History.{Job, stateAfter, recordAfter, jobsOf}
 use Rattle.guarantee.specs.ChosenTime.{standing, chosenTime}
 use Rattle.guarantee.specs.Premise.{Premise}
 use Rattle.guarantee.specs.Guarantee.{Promise}

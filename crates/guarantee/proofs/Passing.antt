@@ -10,7 +10,7 @@ use Rattle.laws.proofs.Tests.{true-not-false, both-hold}
 use Rattle.tables.specs.declared.Task.{Task}
 use Rattle.records.specs.declared.Record.{Record}
 use Rattle.jobs.specs.Opening.{expired}
-use Rattle.guarantee.proofs.Steps.{Expired, over, stays, expiry, expired-open, expired-in-time}
+use Rattle.histories.proofs.Steps.{Expired, over, stays, expiry, expired-open, expired-in-time}
 use Rattle.guarantee.proofs.Busy.{After, both-true, lead, rebase, advance}
 use Rattle.guarantee.proofs.Required.{isDue, due-intro, due-live, due-class, above-required}
 use Rattle.guarantee.proofs.Levels.{upTo, up-itself, up-through, Moment, costs, Level, viewOf, Steady, Given}

@@ -20,9 +20,9 @@ use Rattle.soundness.proofs.Kept.{end, fresh-sound, closed-sound, opened-sound,
 use Rattle.windows.specs.History.{rungOf}
 use Rattle.windows.specs.Bound.{Ledger}
 use Rattle.windows.proofs.Ledgers.{ledger-fresh, ledger-opened, ledger-met, ledger-missed}
-use Rattle.guarantee.specs.History.{Job, outcomesOf}
+use Rattle.histories.specs.History.{Job, outcomesOf}
 use Rattle.guarantee.specs.Guarantee.{Good, Each}
-use Rattle.guarantee.proofs.Steps.{closed-same, closed-idle}
+use Rattle.histories.proofs.Steps.{closed-same, closed-idle}
 
 -- an open job of the required class
 abbrev pub isDue : Record → Bool

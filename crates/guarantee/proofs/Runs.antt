@@ -34,13 +34,13 @@ use Rattle.effects.specs.declared.Applied.{Applied}
 use Rattle.rulings.specs.Steps.{tooSoon, reopened}
 use Rattle.effects.specs.Steps.{expiredAll}
 use Rattle.effects.specs.Apply.{accepted, applied}
-use Rattle.guarantee.specs.History.{stateAfter, recordAfter, accepts, isAccepted, jobsOf}
+use Rattle.histories.specs.History.{stateAfter, recordAfter, accepts, isAccepted, jobsOf}
 use Rattle.guarantee.specs.ChosenTime.{isChoice, openTime}
 use Rattle.guarantee.specs.Premise.{Timely, Premise}
-use Rattle.guarantee.proofs.Steps.{Same, expired-same, is-open}
-use Rattle.guarantee.proofs.Taken.{accepts-answer, passed, Took, refusal, tick, release, completion, took, all-passed, set-there, set-elsewhere}
-use Rattle.guarantee.proofs.Reached.{Reached, room-for, reached}
-use Rattle.guarantee.proofs.Closes.{closes-stays}
+use Rattle.histories.proofs.Steps.{Same, expired-same, is-open}
+use Rattle.histories.proofs.Taken.{accepts-answer, passed, Took, refusal, tick, release, completion, took, all-passed, set-there, set-elsewhere}
+use Rattle.histories.proofs.Reached.{Reached, room-for, reached}
+use Rattle.histories.proofs.Closes.{closes-stays}
 use Rattle.guarantee.proofs.Ticks.{time-rises, time-before, time-unmoved, time-chosen}
 use Rattle.guarantee.proofs.Busy.{keep, rebase}
 use Rattle.guarantee.proofs.Required.{fresh-fine}

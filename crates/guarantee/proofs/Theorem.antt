@@ -25,7 +25,7 @@ use Rattle.guarantee.specs.Guarantee.{Promise, Guarantee}
 use Rattle.guarantee.specs.Premise.{Premise}
 use Rattle.guarantee.proofs.Required.{plain, plain-gates}
 use Rattle.guarantee.proofs.Levels.{Given, allowance, allow, fit}
-use Rattle.guarantee.proofs.Jobs.{history}
+use Rattle.histories.proofs.Jobs.{history}
 use Rattle.guarantee.proofs.Runs.{steady}
 
 module _ (t : Table) (room : ℕ) (ok : allAnswer t room ≡ Accepted) where

@@ -12,7 +12,7 @@ use Rattle.laws.specs.Sums.{total}
 use Rattle.laws.proofs.Sums.{total-same}
 use Rattle.events.specs.declared.Event.{Event}
 use Rattle.states.specs.declared.State.{State}
-use Rattle.guarantee.specs.History.{stateAfter}
+use Rattle.histories.specs.History.{stateAfter}
 use Rattle.guarantee.specs.ChosenTime.{standing, isChoice, tickOf, chosenTime}
 
 -- a longer sum is no smaller

@@ -13,7 +13,7 @@ use Rattle.laws.specs.Tests.{whenever}
 use Rattle.laws.proofs.Tests.{both-hold, whenever-holds}
 use Rattle.events.specs.declared.Event.{Event}
 use Rattle.states.specs.declared.State.{State}
-use Rattle.guarantee.specs.History.{recordAfter, isAccepted}
+use Rattle.histories.specs.History.{recordAfter, isAccepted}
 use Rattle.guarantee.specs.ChosenTime.{openTime}
 use Rattle.guarantee.specs.Premise.{Waits, Timely, Premise}
 use Rattle.guarantee.proofs.Ticks.{time-rises}

@@ -8,7 +8,7 @@ use Rattle.events.specs.declared.Event.{Event}
 use Rattle.states.specs.declared.State.{State}
 use Rattle.states.specs.State.{recordAt}
 use Rattle.states.specs.Choice.{chosen}
-use Rattle.guarantee.specs.History.{stateAfter, recordAfter}
+use Rattle.histories.specs.History.{stateAfter, recordAfter}
 
 -- the state that stands at tick y: the last one whose clock is not after y, of a run that starts at clock 0
 unfoldable pub standing : State → List Event → ℕ → State

@@ -11,7 +11,7 @@ use Rattle.states.specs.declared.State.{State}
 use Rattle.states.specs.State.{freshState}
 use Rattle.demands.specs.Above.{taskAt}
 use Rattle.bounds.specs.Asked.{allAnswer, boundCell}
-use Rattle.guarantee.specs.History.{Job, recordAfter, jobsOf, outcomesOf}
+use Rattle.histories.specs.History.{Job, recordAfter, jobsOf, outcomesOf}
 use Rattle.guarantee.specs.Premise.{Premise}
 
 -- a closed job that opened in class 0 was met, at most the bound after its release

@@ -6,7 +6,7 @@ use mathlib.Core.Bool.{true}
 use mathlib.Core.List.{List, [], _∷_}
 use Rattle.events.specs.declared.Event.{Event}
 use Rattle.states.specs.declared.State.{State}
-use Rattle.guarantee.specs.History.{recordAfter, isAccepted}
+use Rattle.histories.specs.History.{recordAfter, isAccepted}
 use Rattle.guarantee.specs.ChosenTime.{openTime}
 
 -- what an accepted event owes to an open job whose chosen time has reached C at x

@@ -30,8 +30,8 @@ use Rattle.effects.specs.declared.Answer.{Answer}
 use Rattle.rulings.specs.declared.Ruling.{Ruling}
 use Rattle.effects.specs.Apply.{toldOf}
 use Rattle.rulings.specs.Ruling.{seatOf, ruled}
-use Rattle.in_place.specs.declared.Turn.{Turn}
-use Rattle.in_place.specs.Turns.{unsound, acceptedTurn, refusedTurn, placedBy}
+use Rattle.turns.specs.declared.Turn.{Turn}
+use Rattle.turns.specs.Turns.{unsound, acceptedTurn, refusedTurn, placedBy}
 use Rattle.events.proofs.Event as E
 use Rattle.events.proofs.Event.Laws as E′
 use Rattle.records.proofs.Record as R
@@ -43,16 +43,16 @@ use Rattle.effects.proofs.Answer.Laws as S′
 use Rattle.rulings.proofs.Ruling as Q
 use Rattle.rulings.proofs.Ruling.Laws as Q′
 use Rattle.effects.proofs.Applied as P
-use Rattle.in_place.proofs.Turn as U
-use Rattle.in_place.proofs.Turn.Laws as U′
+use Rattle.turns.proofs.Turn as U
+use Rattle.turns.proofs.Turn.Laws as U′
 use Rattle.jobs.proofs.opening.expire as expire
 use Rattle.rulings.proofs.judging.rule as rule
-use Rattle.in_place.proofs.steps.seat_of as seat-of
-use Rattle.in_place.proofs.steps.told_of as told-of
-use Rattle.in_place.proofs.steps.unsound_ruling as unsound-ruling
-use Rattle.in_place.proofs.steps.accepted_turn as accepted-turn
-use Rattle.in_place.proofs.steps.refused_turn as refused-turn
-use Rattle.in_place.proofs.steps.placed as placed
+use Rattle.turns.proofs.steps.seat_of as seat-of
+use Rattle.turns.proofs.steps.told_of as told-of
+use Rattle.turns.proofs.steps.unsound_ruling as unsound-ruling
+use Rattle.turns.proofs.steps.accepted_turn as accepted-turn
+use Rattle.turns.proofs.steps.refused_turn as refused-turn
+use Rattle.turns.proofs.steps.placed as placed
 use Rattle.lent.proofs.Plain.{Gives, taken}
 
 -- machine values, and the same as a list of one

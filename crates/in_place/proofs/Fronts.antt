@@ -29,12 +29,12 @@ use Rattle.effects.specs.Apply.{toldOf, answerOf, moved, accepted, refused, act
 use Rattle.rulings.specs.Ruling.{seatOf, ruled}
 use Rattle.effects.proofs.Frame.{count-stays}
 use Rattle.engine.proofs.Rulings.{Decides, refused-by, accepted-by, decided}
-use Rattle.in_place.specs.declared.Turn.{Turn}
+use Rattle.turns.specs.declared.Turn.{Turn}
 use Rattle.lent.specs.Row.{stateOf, rowOf}
-use Rattle.in_place.specs.Turns.{placedBy}
+use Rattle.turns.specs.Turns.{placedBy}
 use Rattle.lent.proofs.Choices.{best-front}
 use Rattle.rulings.proofs.Prompt.{seat-below}
-use Rattle.in_place.proofs.Turns.{Said}
+use Rattle.turns.proofs.Turns.{Said}
 
 -- ---- the front and the rest of a row that is stored to
 

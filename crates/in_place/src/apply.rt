@@ -1,11 +1,4 @@
 // Applying an event in place, over a lent row and a clock: no copy of the row is made, and a refused event stores nothing.
-use super::Turn;
-use super::steps::accepted_turn;
-use super::steps::placed;
-use super::steps::refused_turn;
-use super::steps::seat_of;
-use super::steps::told_of;
-use super::steps::unsound_ruling;
 use effects::Answer;
 use effects::Applied;
 use events::Event;
@@ -17,12 +10,19 @@ use rulings::Ruling;
 use rulings::judging::rule;
 use states::State;
 use states::choice::better_of;
+use turns::Turn;
+use turns::steps::accepted_turn;
+use turns::steps::placed;
+use turns::steps::refused_turn;
+use turns::steps::seat_of;
+use turns::steps::told_of;
+use turns::steps::unsound_ruling;
 ghost use mathlib.Core.Path.{_≡_};
 ghost use Prim.Native.Nat.{_≤_, _<_};
 ghost use lib.ListN.{length};
 ghost use Rattle.effects.specs.Apply.{applied};
 ghost use Rattle.lent.specs.Row.{stateOf};
-ghost use Rattle.in_place.specs.Turns.{ruledRow, settledRow, rowAnswer};
+ghost use Rattle.turns.specs.Turns.{ruledRow, settledRow, rowAnswer};
 
 // 15 before all, then the ruling on the event's own task.
 fn rule_in(row: &[Record], clock: u64, event: Event) -> Ruling

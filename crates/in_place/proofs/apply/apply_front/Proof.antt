@@ -50,29 +50,29 @@ use Rattle.records.specs.declared.Record.{Record}
 use Rattle.states.specs.declared.State.{State}
 use Rattle.effects.specs.declared.Applied.{Applied}
 use Rattle.effects.specs.Apply.{applied}
-use Rattle.in_place.specs.declared.Turn.{Turn}
-use Rattle.in_place.specs.Turns.{placedBy}
+use Rattle.turns.specs.declared.Turn.{Turn}
+use Rattle.turns.specs.Turns.{placedBy}
 use Rattle.events.proofs.Event as E
 use Rattle.events.proofs.Event.Laws as E′
 use Rattle.records.proofs.Record as R
 use Rattle.records.proofs.Record.Laws as R′
 use Rattle.effects.proofs.Applied as P
 use Rattle.effects.proofs.Applied.Laws as P′
-use Rattle.in_place.proofs.Turn as U
-use Rattle.in_place.proofs.Turn.Laws as U′
+use Rattle.turns.proofs.Turn as U
+use Rattle.turns.proofs.Turn.Laws as U′
 use Rattle.lent.proofs.Called.{record-vals}
 use Rattle.in_place.proofs.Called.{event-val, event-vals, Placed, to-placed, goes-placed, placed-gives}
 use Rattle.in_place.proofs.Fronts.{placed-is}
 use Rattle.lent.proofs.Plain.{calls-plain}
 use Rattle.lent.proofs.Rows.{lends-row, row-back, array-row, row-whole, behind, cut-row, join-row}
-use Rattle.in_place.proofs.Turns.{Said}
+use Rattle.turns.proofs.Turns.{Said}
 use Rattle.in_place.proofs.apply.apply_in as apply-in
 use Rattle.in_place.proofs.apply.apply_in.Symbol as apply-in-def
 use Rattle.in_place.proofs.apply.apply_in.Symbol.{name as #in-place·apply·apply-in}
 use Rattle.in_place.proofs.apply.apply_in.Met as apply-in-thm
-use Rattle.in_place.proofs.steps.placed.Symbol as placed-def
-use Rattle.in_place.proofs.steps.placed.Symbol.{name as #in-place·steps·placed}
-use Rattle.in_place.proofs.steps.placed.Met as placed-thm
+use Rattle.turns.proofs.steps.placed.Symbol as placed-def
+use Rattle.turns.proofs.steps.placed.Symbol.{name as #turns·steps·placed}
+use Rattle.turns.proofs.steps.placed.Met as placed-thm
 use Rattle.in_place.proofs.apply.apply_front.Key.{name as #in-place·apply·apply-front}
 use Rattle.in_place.proofs.apply.apply_front as apply-front
 use Rattle.in_place.proofs.apply.apply_front.Statement as stated
@@ -169,7 +169,7 @@ module _ {M : Type 1} (𝓤 : URA M) (H : Heap 𝓤) (A : Atoms 𝓤) (W : Given
   tells : (zs : List Record) (vs : List Val) → Is (Array R.the-row size) zs vs → vs ≡ row-vals zs
   tells = array-tells R.the-row record-vals (LL.tells R.the-type R′.the-laws) size
 
-  module _ (C : Calls 𝓤 H) (Λ : Loops 𝓤 H) (fm : FmC 𝓤 H (W .laws) C) (known : Triple 𝓤 (C #in-place·apply·apply-in) (ApplyIn 𝓤 H A at-mem run)) (known-placed : Triple 𝓤 (C #in-place·steps·placed) (Placed 𝓤 H A at-mem run)) where
+  module _ (C : Calls 𝓤 H) (Λ : Loops 𝓤 H) (fm : FmC 𝓤 H (W .laws) C) (known : Triple 𝓤 (C #in-place·apply·apply-in) (ApplyIn 𝓤 H A at-mem run)) (known-placed : Triple 𝓤 (C #turns·steps·placed) (Placed 𝓤 H A at-mem run)) where
     walk : ent 𝓤 (onEntry 𝓤 H A apply-front.signature tt tt a at) (WpFn 𝓤 H C Λ code.function (av ∷ vint w64 n ∷ vint w64 c ∷ event-val e ∷ []) Post)
     walk =
         qed W (‵ ftrue ∷ ‵ (owns (Array R.the-row size ∷ usize ∷ u64 ∷ E.the-row ∷ []) a at) ∷ []) ∵ enter ! C Λ code.function (av ∷ vint w64 n ∷ vint w64 c ∷ event-val e ∷ []) _ $
@@ -217,7 +217,7 @@ module _ {M : Type 1} (𝓤 : URA M) (H : Heap 𝓤) (A : Atoms 𝓤) (W : Given
         told zs vs is = subst (λ (us : List Val). Is (Array R.the-row size) zs us) (tells zs vs is) is
 
 module _ {M : Type 1} (𝓤 : URA M) (H : Heap 𝓤) (A : Atoms 𝓤) (W : Given 𝓤 H A) (at-mem : Memory → SProp 𝓤) (run : Routine → Fun 𝓤) (𝓣 : Tables 𝓤 H)
-    (known : Triple 𝓤 (𝓣 .C #in-place·apply·apply-in) (ApplyIn 𝓤 H A at-mem run)) (known-placed : Triple 𝓤 (𝓣 .C #in-place·steps·placed) (Placed 𝓤 H A at-mem run)) where
+    (known : Triple 𝓤 (𝓣 .C #in-place·apply·apply-in) (ApplyIn 𝓤 H A at-mem run)) (known-placed : Triple 𝓤 (𝓣 .C #turns·steps·placed) (Placed 𝓤 H A at-mem run)) where
   apply-front-walks : Walks 𝓤 H A apply-front.ended stayed (WpFn 𝓤 H (𝓣 .C) (𝓣 .Λ) code.function) (apply-front.clauses 𝓤 H A at-mem run)
   apply-front-walks = walked 𝓤 H A apply-front.ended stayed (apply-front.clauses 𝓤 H A at-mem run) (WpFn 𝓤 H (𝓣 .C) (𝓣 .Λ) code.function) (λ κs. (row-vals, (uint-vals w64, (uint-vals w64, (event-vals, tt)))))
       (λ κs. (array-tells R.the-row record-vals (LL.tells R.the-type R′.the-laws) size, (uint-tells w64, (uint-tells w64, (LL.tells E.the-type E′.the-laws, tt)))))
@@ -237,4 +237,4 @@ apply-front-spec 𝓤 H 𝓜 𝓖 𝓡 =
     (tables 𝓤 H 𝓜 𝓡 code.env .C) (tables 𝓤 H 𝓜 𝓡 code.env .Λ) #in-place·apply·apply-front code.function (code.unfolded 𝓤 H 𝓜 𝓡)
     (apply-front-meets 𝓤 H (𝓖 .A) (givenOf 𝓤 H 𝓜 𝓖) (𝓜 .mem) (𝓡 .run) (tablesOf 𝓤 H 𝓜 (tables 𝓤 H 𝓜 𝓡 code.env))
     (cited 𝓤 H (ApplyIn 𝓤 H (𝓖 .A) (𝓜 .mem) (𝓡 .run)) 𝓜 𝓡 code.env #in-place·apply·apply-in apply-in-def.routine code.calls-in-place·apply·apply-in (apply-in-thm.met 𝓤 H 𝓜 𝓖 𝓡))
-    (cited 𝓤 H (Placed 𝓤 H (𝓖 .A) (𝓜 .mem) (𝓡 .run)) 𝓜 𝓡 code.env #in-place·steps·placed placed-def.routine code.calls-in-place·steps·placed (placed-thm.met 𝓤 H 𝓜 𝓖 𝓡)))
+    (cited 𝓤 H (Placed 𝓤 H (𝓖 .A) (𝓜 .mem) (𝓡 .run)) 𝓜 𝓡 code.env #turns·steps·placed placed-def.routine code.calls-turns·steps·placed (placed-thm.met 𝓤 H 𝓜 𝓖 𝓡)))

@@ -48,8 +48,8 @@ use Rattle.events.specs.declared.Event.{Event}
 use Rattle.records.specs.declared.Record.{Record}
 use Rattle.effects.specs.declared.Answer.{Answer}
 use Rattle.rulings.specs.declared.Ruling.{Ruling}
-use Rattle.in_place.specs.declared.Turn.{Turn}
-use Rattle.in_place.specs.Turns.{ruledRow, settledRow, rowAnswer, acceptedTurn, refusedTurn}
+use Rattle.turns.specs.declared.Turn.{Turn}
+use Rattle.turns.specs.Turns.{ruledRow, settledRow, rowAnswer, acceptedTurn, refusedTurn}
 use Rattle.events.proofs.Event as E
 use Rattle.events.proofs.Event.Laws as E′
 use Rattle.records.proofs.Record as R
@@ -58,13 +58,13 @@ use Rattle.effects.proofs.Answer as S
 use Rattle.effects.proofs.Answer.Laws as S′
 use Rattle.rulings.proofs.Ruling as Q
 use Rattle.rulings.proofs.Ruling.Laws as Q′
-use Rattle.in_place.proofs.Turn as U
-use Rattle.in_place.proofs.Turn.Laws as U′
+use Rattle.turns.proofs.Turn as U
+use Rattle.turns.proofs.Turn.Laws as U′
 use Rattle.lent.proofs.Called.{record-vals}
 use Rattle.in_place.proofs.Called.{event-val, event-vals, ruling-val, AcceptedTurn, RefusedTurn, to-accepted-turn, to-refused-turn, goes-accepted-turn, goes-refused-turn, accepted-turn-gives, refused-turn-gives}
 use Rattle.lent.proofs.Plain.{calls-plain-last}
 use Rattle.lent.proofs.Rows.{shares-row, shared-back, lends-row, row-back}
-use Rattle.in_place.proofs.Turns.{Said, accepted-some, says-accepted, says-refused}
+use Rattle.turns.proofs.Turns.{Said, accepted-some, says-accepted, says-refused}
 use Rattle.in_place.proofs.apply.rule_in as rule-in
 use Rattle.in_place.proofs.apply.rule_in.Symbol as rule-in-def
 use Rattle.in_place.proofs.apply.rule_in.Symbol.{name as #in-place·apply·rule-in}
@@ -73,12 +73,12 @@ use Rattle.in_place.proofs.apply.settle_in as settle-in
 use Rattle.in_place.proofs.apply.settle_in.Symbol as settle-in-def
 use Rattle.in_place.proofs.apply.settle_in.Symbol.{name as #in-place·apply·settle-in}
 use Rattle.in_place.proofs.apply.settle_in.Met as settle-in-thm
-use Rattle.in_place.proofs.steps.accepted_turn.Symbol as accepted-turn-def
-use Rattle.in_place.proofs.steps.accepted_turn.Symbol.{name as #in-place·steps·accepted-turn}
-use Rattle.in_place.proofs.steps.accepted_turn.Met as accepted-turn-thm
-use Rattle.in_place.proofs.steps.refused_turn.Symbol as refused-turn-def
-use Rattle.in_place.proofs.steps.refused_turn.Symbol.{name as #in-place·steps·refused-turn}
-use Rattle.in_place.proofs.steps.refused_turn.Met as refused-turn-thm
+use Rattle.turns.proofs.steps.accepted_turn.Symbol as accepted-turn-def
+use Rattle.turns.proofs.steps.accepted_turn.Symbol.{name as #turns·steps·accepted-turn}
+use Rattle.turns.proofs.steps.accepted_turn.Met as accepted-turn-thm
+use Rattle.turns.proofs.steps.refused_turn.Symbol as refused-turn-def
+use Rattle.turns.proofs.steps.refused_turn.Symbol.{name as #turns·steps·refused-turn}
+use Rattle.turns.proofs.steps.refused_turn.Met as refused-turn-thm
 use Rattle.in_place.proofs.apply.apply_in.Key.{name as #in-place·apply·apply-in}
 use Rattle.in_place.proofs.apply.apply_in as apply-in
 use Rattle.in_place.proofs.apply.apply_in.Statement as stated
@@ -120,8 +120,8 @@ module _ {M : Type 1} (𝓤 : URA M) (H : Heap 𝓤) (A : Atoms 𝓤) (at-mem : 
   record Known : Type 2 where
     pub rule-in : Triple 𝓤 (C #in-place·apply·rule-in) (RuleIn 𝓤 H A at-mem run)
     pub settle-in : Triple 𝓤 (C #in-place·apply·settle-in) (SettleIn 𝓤 H A at-mem run)
-    pub accepted-turn : Triple 𝓤 (C #in-place·steps·accepted-turn) (AcceptedTurn 𝓤 H A at-mem run)
-    pub refused-turn : Triple 𝓤 (C #in-place·steps·refused-turn) (RefusedTurn 𝓤 H A at-mem run)
+    pub accepted-turn : Triple 𝓤 (C #turns·steps·accepted-turn) (AcceptedTurn 𝓤 H A at-mem run)
+    pub refused-turn : Triple 𝓤 (C #turns·steps·refused-turn) (RefusedTurn 𝓤 H A at-mem run)
 
 module _ {M : Type 1} (𝓤 : URA M) (H : Heap 𝓤) (A : Atoms 𝓤) (W : Given 𝓤 H A) (at-mem : Memory → SProp 𝓤) (run : Routine → Fun 𝓤) (κ : Lft) (q : Share) (b o : ℕ) (γ : GName) (ys : List Record) (c : ℕ) (e : Event)
     (room : Room R.the-row (length ys)) (c-fits : c < 2 ^ 64) (e-is : Is E.the-row e (event-vals e)) where
@@ -288,7 +288,7 @@ apply-in-spec 𝓤 H 𝓜 𝓖 𝓡 =
     (record {
       rule-in = cited 𝓤 H (RuleIn 𝓤 H (𝓖 .A) (𝓜 .mem) (𝓡 .run)) 𝓜 𝓡 code.env #in-place·apply·rule-in rule-in-def.routine code.calls-in-place·apply·rule-in (rule-in-thm.met 𝓤 H 𝓜 𝓖 𝓡);
       settle-in = cited 𝓤 H (SettleIn 𝓤 H (𝓖 .A) (𝓜 .mem) (𝓡 .run)) 𝓜 𝓡 code.env #in-place·apply·settle-in settle-in-def.routine code.calls-in-place·apply·settle-in (settle-in-thm.met 𝓤 H 𝓜 𝓖 𝓡);
-      accepted-turn = cited 𝓤 H (AcceptedTurn 𝓤 H (𝓖 .A) (𝓜 .mem) (𝓡 .run)) 𝓜 𝓡 code.env #in-place·steps·accepted-turn accepted-turn-def.routine code.calls-in-place·steps·accepted-turn (accepted-turn-thm.met 𝓤 H 𝓜 𝓖 𝓡);
-      refused-turn = cited 𝓤 H (RefusedTurn 𝓤 H (𝓖 .A) (𝓜 .mem) (𝓡 .run)) 𝓜 𝓡 code.env #in-place·steps·refused-turn refused-turn-def.routine code.calls-in-place·steps·refused-turn (refused-turn-thm.met 𝓤 H 𝓜 𝓖 𝓡);
+      accepted-turn = cited 𝓤 H (AcceptedTurn 𝓤 H (𝓖 .A) (𝓜 .mem) (𝓡 .run)) 𝓜 𝓡 code.env #turns·steps·accepted-turn accepted-turn-def.routine code.calls-turns·steps·accepted-turn (accepted-turn-thm.met 𝓤 H 𝓜 𝓖 𝓡);
+      refused-turn = cited 𝓤 H (RefusedTurn 𝓤 H (𝓖 .A) (𝓜 .mem) (𝓡 .run)) 𝓜 𝓡 code.env #turns·steps·refused-turn refused-turn-def.routine code.calls-turns·steps·refused-turn (refused-turn-thm.met 𝓤 H 𝓜 𝓖 𝓡);
     }
     ))

@@ -53,7 +53,7 @@ use Rattle.states.specs.Choice.{none, better}
 use Rattle.effects.specs.declared.Answer.{Answer}
 use Rattle.effects.specs.Apply.{toldOf}
 use Rattle.engine.proofs.Settled.{Settling, settling-none}
-use Rattle.in_place.specs.Turns.{seatIn, storedRow, settledRow, rowAnswer}
+use Rattle.turns.specs.Turns.{seatIn, storedRow, settledRow, rowAnswer}
 use Rattle.events.proofs.Event as E
 use Rattle.events.proofs.Event.Laws as E′
 use Rattle.records.proofs.Record as R
@@ -66,7 +66,7 @@ use Rattle.lent.proofs.Called.{record-val, record-vals, NoBest, BetterOf, to-no
 use Rattle.in_place.proofs.Called.{event-val, event-vals, best-val, Expire, SeatOf, ToldOf, to-expire, to-seat-of, to-told-of, goes-expire, goes-seat-of, goes-told-of, expire-gives, seat-of-gives, told-of-gives}
 use Rattle.lent.proofs.Plain.{calls-plain}
 use Rattle.rulings.proofs.Prompt.{seat-below}
-use Rattle.in_place.proofs.Turns.{settles-on, settled-at, settled-tells}
+use Rattle.turns.proofs.Turns.{settles-on, settled-at, settled-tells}
 use Rattle.lent.proofs.While.{tests, scaled}
 use Rattle.jobs.proofs.opening.expire.Symbol as expire-def
 use Rattle.jobs.proofs.opening.expire.Symbol.{name as #jobs·opening·expire}
@@ -77,12 +77,12 @@ use Rattle.states.proofs.choice.better_of.Met as better-of-thm
 use Rattle.lent.proofs.choice.no_best.Symbol as no-best-def
 use Rattle.lent.proofs.choice.no_best.Symbol.{name as #lent·choice·no-best}
 use Rattle.lent.proofs.choice.no_best.Met as no-best-thm
-use Rattle.in_place.proofs.steps.seat_of.Symbol as seat-of-def
-use Rattle.in_place.proofs.steps.seat_of.Symbol.{name as #in-place·steps·seat-of}
-use Rattle.in_place.proofs.steps.seat_of.Met as seat-of-thm
-use Rattle.in_place.proofs.steps.told_of.Symbol as told-of-def
-use Rattle.in_place.proofs.steps.told_of.Symbol.{name as #in-place·steps·told-of}
-use Rattle.in_place.proofs.steps.told_of.Met as told-of-thm
+use Rattle.turns.proofs.steps.seat_of.Symbol as seat-of-def
+use Rattle.turns.proofs.steps.seat_of.Symbol.{name as #turns·steps·seat-of}
+use Rattle.turns.proofs.steps.seat_of.Met as seat-of-thm
+use Rattle.turns.proofs.steps.told_of.Symbol as told-of-def
+use Rattle.turns.proofs.steps.told_of.Symbol.{name as #turns·steps·told-of}
+use Rattle.turns.proofs.steps.told_of.Met as told-of-thm
 use Rattle.in_place.proofs.apply.settle_in.Key.{name as #in-place·apply·settle-in}
 use Rattle.in_place.proofs.apply.settle_in as settle-in
 use Rattle.in_place.proofs.apply.settle_in.Statement as stated
@@ -112,8 +112,8 @@ module _ {M : Type 1} (𝓤 : URA M) (H : Heap 𝓤) (A : Atoms 𝓤) (at-mem : 
     pub expire : Triple 𝓤 (𝓣 .C #jobs·opening·expire) (Expire 𝓤 H A at-mem run)
     pub no-best : Triple 𝓤 (𝓣 .C #lent·choice·no-best) (NoBest 𝓤 H A at-mem run)
     pub better-of : Triple 𝓤 (𝓣 .C #states·choice·better-of) (BetterOf 𝓤 H A at-mem run)
-    pub seat-of : Triple 𝓤 (𝓣 .C #in-place·steps·seat-of) (SeatOf 𝓤 H A at-mem run)
-    pub told-of : Triple 𝓤 (𝓣 .C #in-place·steps·told-of) (ToldOf 𝓤 H A at-mem run)
+    pub seat-of : Triple 𝓤 (𝓣 .C #turns·steps·seat-of) (SeatOf 𝓤 H A at-mem run)
+    pub told-of : Triple 𝓤 (𝓣 .C #turns·steps·told-of) (ToldOf 𝓤 H A at-mem run)
 
 module _ {M : Type 1} (𝓤 : URA M) (H : Heap 𝓤) (A : Atoms 𝓤) (W : Given 𝓤 H A) (at-mem : Memory → SProp 𝓤) (run : Routine → Fun 𝓤) (κ : Lft) (q : Share) (b o : ℕ) (γ : GName) (ys : List Record) (e : Event) (x : Record)
     (room : Room R.the-row (length ys)) (e-is : Is E.the-row e (event-vals e)) (x-is : Is R.the-row x (record-vals x)) (ready : 0 < length ys) where
@@ -354,7 +354,7 @@ settle-in-spec 𝓤 H 𝓜 𝓖 𝓡 =
       expire = cited 𝓤 H (Expire 𝓤 H (𝓖 .A) (𝓜 .mem) (𝓡 .run)) 𝓜 𝓡 code.env #jobs·opening·expire expire-def.routine code.calls-jobs·opening·expire (expire-thm.met 𝓤 H 𝓜 𝓖 𝓡);
       no-best = cited 𝓤 H (NoBest 𝓤 H (𝓖 .A) (𝓜 .mem) (𝓡 .run)) 𝓜 𝓡 code.env #lent·choice·no-best no-best-def.routine code.calls-lent·choice·no-best (no-best-thm.met 𝓤 H 𝓜 𝓖 𝓡);
       better-of = cited 𝓤 H (BetterOf 𝓤 H (𝓖 .A) (𝓜 .mem) (𝓡 .run)) 𝓜 𝓡 code.env #states·choice·better-of better-of-def.routine code.calls-states·choice·better-of (better-of-thm.met 𝓤 H 𝓜 𝓖 𝓡);
-      seat-of = cited 𝓤 H (SeatOf 𝓤 H (𝓖 .A) (𝓜 .mem) (𝓡 .run)) 𝓜 𝓡 code.env #in-place·steps·seat-of seat-of-def.routine code.calls-in-place·steps·seat-of (seat-of-thm.met 𝓤 H 𝓜 𝓖 𝓡);
-      told-of = cited 𝓤 H (ToldOf 𝓤 H (𝓖 .A) (𝓜 .mem) (𝓡 .run)) 𝓜 𝓡 code.env #in-place·steps·told-of told-of-def.routine code.calls-in-place·steps·told-of (told-of-thm.met 𝓤 H 𝓜 𝓖 𝓡);
+      seat-of = cited 𝓤 H (SeatOf 𝓤 H (𝓖 .A) (𝓜 .mem) (𝓡 .run)) 𝓜 𝓡 code.env #turns·steps·seat-of seat-of-def.routine code.calls-turns·steps·seat-of (seat-of-thm.met 𝓤 H 𝓜 𝓖 𝓡);
+      told-of = cited 𝓤 H (ToldOf 𝓤 H (𝓖 .A) (𝓜 .mem) (𝓡 .run)) 𝓜 𝓡 code.env #turns·steps·told-of told-of-def.routine code.calls-turns·steps·told-of (told-of-thm.met 𝓤 H 𝓜 𝓖 𝓡);
     }
     ))

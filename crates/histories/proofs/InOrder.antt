@@ -4,7 +4,7 @@ use mathlib.Core.List.{List, [], _∷_}
 use Rattle.events.specs.declared.Event.{Event}
 use Rattle.states.specs.declared.State.{State}
 use Rattle.effects.specs.Apply.{applied}
-use Rattle.guarantee.specs.History.{stateAfter}
+use Rattle.histories.specs.History.{stateAfter}
 
 abbrev pub inOrder : State → List Event → State
 inOrder s [] = s

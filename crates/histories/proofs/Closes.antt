@@ -7,7 +7,7 @@ use borrow.Author.Tests.{eq-eqb, ne-eqb}
 use lib.Dec.{eqb}
 use Rattle.events.specs.declared.Event.{Event}
 use Rattle.records.specs.declared.Record.{Record}
-use Rattle.guarantee.specs.History.{Job, closes, completes, closedJob}
+use Rattle.histories.specs.History.{Job, closes, completes, closedJob}
 
 -- the closed jobs of task i after an event
 abbrev pub jobsWith : Record → Record → Event → ℕ → List Job → List Job

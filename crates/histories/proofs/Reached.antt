@@ -21,8 +21,8 @@ use Rattle.effects.specs.Apply.{acted, applied}
 use Rattle.effects.proofs.Frame.{count-stays, past-stays, row-stays}
 use Rattle.effects.proofs.Kept.{applied-sound}
 use Rattle.effects.proofs.Places.{expired-length}
-use Rattle.guarantee.specs.History.{stateAfter}
-use Rattle.guarantee.proofs.Taken.{Took, refusal, tick, release, completion, acts, took}
+use Rattle.histories.specs.History.{stateAfter}
+use Rattle.histories.proofs.Taken.{Took, refusal, tick, release, completion, acts, took}
 
 -- what an event keeps, refused or not
 pub record Keeps (s q : State) : Type 0 where

@@ -30,9 +30,9 @@ use Rattle.rulings.specs.Ruling.{ruled}
 use Rattle.effects.proofs.Frame.{refused-stays}
 use Rattle.engine.proofs.Rulings.{Accepts, refused-by, accepted-by, decided}
 use Rattle.engine.proofs.Settled.{settledTo, Settling, settling-more, stored-first}
-use Rattle.in_place.specs.declared.Turn.{Turn}
+use Rattle.turns.specs.declared.Turn.{Turn}
 use Rattle.lent.specs.Row.{stateOf}
-use Rattle.in_place.specs.Turns.{seatIn, ruledRow, unsound, storedRow, settledRow, rowAnswer, acceptedTurn, refusedTurn}
+use Rattle.turns.specs.Turns.{seatIn, ruledRow, unsound, storedRow, settledRow, rowAnswer, acceptedTurn, refusedTurn}
 
 -- ---- the loop that settles a row
 

@@ -9,6 +9,7 @@ use lib.Dec.{eqb}
 use lib.ListN.{length}
 use Rattle.laws.proofs.Tests.{true-not-false, both-hold}
 use Rattle.events.specs.declared.Event.{Event}
+use Rattle.levels.specs.Level.{classOf}
 use Rattle.tables.specs.declared.Task.{Task}
 use Rattle.tables.specs.declared.Table.{Table}
 use Rattle.tables.specs.declared.Answer.the-variants.{Accepted}
@@ -27,17 +28,19 @@ use Rattle.states.specs.Sound.{StateSound}
 use Rattle.states.proofs.Starting.{fresh-at}
 use Rattle.windows.specs.Outcomes.{mets, misses, lastMisses, firstOver}
 use Rattle.windows.specs.History.{History, start, release, close, openOf}
+use Rattle.windows.specs.Rungs.{Rung, rungAfter}
 use Rattle.windows.proofs.Counts.{counts}
 use Rattle.windows.proofs.Marks.{window-is}
 use Rattle.windows.proofs.Broken.{broken-is}
+use Rattle.windows.proofs.Rungs.{class-is, rung-is}
 use Rattle.demands.specs.Above.{taskAt}
 use Rattle.rulings.specs.Steps.{reopened}
 use Rattle.effects.specs.Apply.{applied}
-use Rattle.guarantee.specs.History.{Job, stateAfter, recordAfter, closes, closedJob, jobsOf, outcomesOf}
-use Rattle.guarantee.proofs.Steps.{closed-same, closed-idle, cleared, cleared-open, cleared-none, cleared-same, Expired, over, stays, expiry, expired-same, expired-open}
-use Rattle.guarantee.proofs.Closes.{jobsWith, closes-none, closes-stays, closes-idle, closes-next}
-use Rattle.guarantee.proofs.Taken.{passed, Becomes, same, passes, reopens, finishes, becomes}
-use Rattle.guarantee.proofs.Reached.{room-for, reached}
+use Rattle.histories.specs.History.{Job, stateAfter, recordAfter, closes, closedJob, jobsOf, outcomesOf}
+use Rattle.histories.proofs.Steps.{closed-same, closed-idle, cleared, cleared-open, cleared-none, cleared-same, Expired, over, stays, expiry, expired-same, expired-open}
+use Rattle.histories.proofs.Closes.{jobsWith, closes-none, closes-stays, closes-idle, closes-next}
+use Rattle.histories.proofs.Taken.{passed, Becomes, same, passes, reopens, finishes, becomes}
+use Rattle.histories.proofs.Reached.{room-for, reached}
 
 -- a new job has a number of its own
 later-number : (r : Record) (clock : ℕ) (e : Event) → Sound r clock → clock ≤ end → (q : Record) → q .released ≡ r .released
@@ -132,6 +135,11 @@ abbrev pub Numbered : List Job → Type 0
 Numbered [] = Unit
 Numbered (j ∷ jobs) = (j .number ≡ suc (length (outcomesOf jobs))) × Numbered jobs
 
+-- the class of a job is the larger of 0 and the level that the jobs before it leave
+abbrev pub Classed : Task → List Job → Type 0
+Classed task [] = Unit
+Classed task (j ∷ jobs) = (j .class ≡ classOf (rungAfter task (outcomesOf jobs) .level)) × Classed task jobs
+
 closing-open : (r q : Record) → closes r q ≡ true → r .live ≡ true
 closing-open r q e = both-hold (r .live) (cond (q .live) (cond (eqb (q .released) (r .released)) false true) true) e .0
 
@@ -172,4 +180,17 @@ module _ (t : Table) (good : judged t ≡ Accepted) where
       go true q k =
           let l = closing-open (recordAfter from es i) (recordAfter from (e ∷ es) i) q in
           (omega (arith, rw l at (tallied es i h .released)), k)
+      go false q k = k
+
+  pub classed : (es : List Event) (i : ℕ) → i < t .count → Classed (taskAt t i) (jobsOf from es i)
+  unfolding jobsOf
+  classed [] i h = tt
+  classed (e ∷ es) i h = go (closes (recordAfter from es i) (recordAfter from (e ∷ es) i)) refl (classed es i h)
+    where
+      go : (b : Bool) → closes (recordAfter from es i) (recordAfter from (e ∷ es) i) ≡ b → Classed (taskAt t i) (jobsOf from es i)
+          → Classed (taskAt t i) (cond b (closedJob (recordAfter from es i) e i ∷ jobsOf from es i) (jobsOf from es i))
+      go true q k =
+          let l = closing-open (recordAfter from es i) (recordAfter from (e ∷ es) i) q in
+          let run = history es i h in
+          (class-is run l ∙ ap (λ (x : Rung). classOf (x .level)) (rung-is run), k)
       go false q k = k

@@ -15,7 +15,7 @@ use Rattle.effects.specs.declared.Applied.{Applied}
 use Rattle.rulings.specs.declared.Ruling.{Ruling}
 use Rattle.effects.specs.Apply.{toldOf}
 use Rattle.rulings.specs.Ruling.{seatOf, kept, ruled}
-use Rattle.in_place.specs.declared.Turn.{Turn}
+use Rattle.turns.specs.declared.Turn.{Turn}
 use Rattle.lent.specs.Row.{stateOf}
 
 abbrev pub unsound : Ruling

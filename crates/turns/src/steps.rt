@@ -13,7 +13,7 @@ use tables::Task;
 ghost use mathlib.Core.Path.{_≡_};
 ghost use Rattle.effects.specs.Apply.{toldOf};
 ghost use Rattle.rulings.specs.Ruling.{seatOf};
-ghost use Rattle.in_place.specs.Turns.{unsound, refusedTurn, acceptedTurn, placedBy};
+ghost use Rattle.turns.specs.Turns.{unsound, refusedTurn, acceptedTurn, placedBy};
 
 // Where the event's task stands in a row of this length.
 pub fn seat_of(event: Event, count: usize) -> usize

@@ -26,9 +26,9 @@ use Rattle.rulings.specs.Steps.{tooSoon, reopened, isOpen}
 use Rattle.effects.specs.Steps.{expiredAll}
 use Rattle.effects.specs.Apply.{answerOf, accepted, refused, ticked, releasedAt, completedAt, byKind, timed, acted, applied}
 use Rattle.effects.proofs.Runs.{sound-acts}
-use Rattle.guarantee.specs.History.{accepts, completes}
-use Rattle.guarantee.proofs.Steps.{is-open}
-use Rattle.guarantee.proofs.Closes.{other-kind, other-task, completed}
+use Rattle.histories.specs.History.{accepts, completes}
+use Rattle.histories.proofs.Steps.{is-open}
+use Rattle.histories.proofs.Closes.{other-kind, other-task, completed}
 
 -- an accepted event's answer is no refusal
 pub accepts-answer : (s : State) → accepts (answerOf s) ≡ true

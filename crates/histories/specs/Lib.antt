@@ -1,0 +1,2 @@
+-- What a reader has to believe of a run.
+pub mod History

@@ -1,0 +1,2 @@
+-- What is shown of a turn beside the functions' contracts.
+pub mod Turns
