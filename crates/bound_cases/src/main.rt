@@ -91,7 +91,7 @@ fn all_into(table: Table, room: usize) {
     if 20 < room {
         return;
     }
-    let answer = bounds::of_table::all(table, &mut row[0..room]);
+    let answer = all_bounds::of_table::all(table, &mut row[0..room]);
     text(b", ");
     told(answer);
     cells(&row);

@@ -20,12 +20,12 @@ use Rattle.states.specs.declared.State.{State}
 use Rattle.states.specs.State.{recordAt}
 use Rattle.states.specs.Sound.{limit, StateSound}
 use Rattle.states.specs.Choice.{chosen}
-use Rattle.states.proofs.Least.{found-below}
+use Rattle.choices.proofs.Least.{found-below}
 use Rattle.states.proofs.Sounding.{state-tells}
 use Rattle.effects.specs.declared.Answer.{Answer}
 use Rattle.effects.specs.declared.Answer.the-variants as A
 use Rattle.effects.specs.declared.Applied.{Applied}
-use Rattle.rulings.specs.Steps.{tooSoon, reopened, isOpen}
+use Rattle.task_steps.specs.Steps.{tooSoon, reopened, isOpen}
 use Rattle.effects.specs.Steps.{expiredAll}
 use Rattle.effects.specs.Apply.{answerOf, moved, ticked, releasedAt, completedAt, byKind, timed, acted, applied}
 use Rattle.effects.specs.Log.{standing, ranOver, ran}

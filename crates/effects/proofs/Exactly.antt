@@ -20,7 +20,7 @@ use Rattle.states.proofs.Sounding.{state-tells}
 use Rattle.effects.specs.declared.Answer.{Answer}
 use Rattle.effects.specs.declared.Applied.{Applied}
 use Rattle.effects.specs.Answers.{numberOf}
-use Rattle.rulings.specs.Steps.{tooSoon, reopened, isOpen}
+use Rattle.task_steps.specs.Steps.{tooSoon, reopened, isOpen}
 use Rattle.effects.specs.Steps.{expiredAll}
 use Rattle.effects.specs.Apply.{answerOf, moved, refused, ticked, releasedAt, completedAt, byKind, timed, acted, applied}
 use Rattle.effects.specs.Verdict.{afterOne, Heard, Verdict, unsound, unruled, untimely, no-task, too-soon, no-job, ticks, releases, completes}

@@ -22,7 +22,7 @@ use Rattle.states.specs.Choice.{chosen}
 use Rattle.effects.specs.declared.Answer.{Answer}
 use Rattle.effects.specs.declared.Answer.the-variants.{Refused}
 use Rattle.effects.specs.declared.Applied.{Applied}
-use Rattle.rulings.specs.Steps.{tooSoon, reopened, isOpen}
+use Rattle.task_steps.specs.Steps.{tooSoon, reopened, isOpen}
 use Rattle.effects.specs.Steps.{expiredAll}
 use Rattle.effects.specs.Apply.{answerOf, moved, accepted, refused, ticked, releasedAt, completedAt, byKind, timed, acted, applied}
 use Rattle.effects.proofs.Places.{places, expired-at, expired-past, stored-here, stored-other}

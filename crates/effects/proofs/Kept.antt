@@ -18,7 +18,7 @@ use Rattle.states.specs.declared.State.{State}
 use Rattle.states.specs.State.{recordAt}
 use Rattle.states.specs.Sound.{limit, StateSound, stateHolds}
 use Rattle.effects.specs.declared.Applied.{Applied}
-use Rattle.rulings.specs.Steps.{tooSoon, reopened, isOpen}
+use Rattle.task_steps.specs.Steps.{tooSoon, reopened, isOpen}
 use Rattle.effects.specs.Steps.{expiredAll}
 use Rattle.effects.specs.Apply.{moved, ticked, releasedAt, completedAt, byKind, timed, acted, applied}
 use Rattle.effects.proofs.Places.{places, expired-at, stored-here, stored-other}

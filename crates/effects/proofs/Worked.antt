@@ -16,7 +16,7 @@ use Rattle.soundness.specs.Sound.{soundHolds}
 use Rattle.states.specs.declared.State.{State}
 use Rattle.states.specs.State.{freshState}
 use Rattle.states.specs.Sound.{eachHolds, stateHolds}
-use Rattle.states.specs.Choice.{bestTo}
+use Rattle.choices.specs.Choice.{bestTo}
 use Rattle.effects.specs.declared.Answer.{Answer}
 use Rattle.effects.specs.declared.Answer.the-variants.{Run, Idle, Refused}
 use Rattle.effects.specs.Apply.{ticked, releasedAt, completedAt, byKind, timed, acted, applied}

@@ -9,7 +9,7 @@ use Rattle.events.specs.Event.{faultOf}
 use Rattle.records.specs.declared.Record.{Record}
 use Rattle.records.specs.Closing.{closed}
 use Rattle.jobs.specs.Opening.{expired}
-use Rattle.states.specs.declared.Best.{Best}
+use Rattle.choices.specs.declared.Best.{Best}
 use Rattle.states.specs.declared.State.{State}
 use Rattle.states.specs.State.{recordAt}
 use Rattle.states.specs.Sound.{limit, stateHolds}
@@ -17,7 +17,7 @@ use Rattle.states.specs.Choice.{chosen}
 use Rattle.effects.specs.declared.Answer.{Answer}
 use Rattle.effects.specs.declared.Answer.the-variants.{Run, Idle, Refused}
 use Rattle.effects.specs.declared.Applied.{Applied}
-use Rattle.rulings.specs.Steps.{tooSoon, reopened, isOpen}
+use Rattle.task_steps.specs.Steps.{tooSoon, reopened, isOpen}
 use Rattle.effects.specs.Steps.{expiredAll}
 
 -- run with the chosen position and that job's class, or idle

@@ -10,7 +10,7 @@ use Rattle.jobs.specs.Opening.{expired}
 use Rattle.states.specs.declared.State.{State}
 use Rattle.states.specs.State.{recordAt}
 use Rattle.states.specs.Sound.{limit, StateSound}
-use Rattle.rulings.specs.Steps.{tooSoon, isOpen}
+use Rattle.task_steps.specs.Steps.{tooSoon, isOpen}
 
 -- the record of the event's task after step 1
 abbrev pub afterOne : State → Event → Record

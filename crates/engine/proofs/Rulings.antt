@@ -20,7 +20,7 @@ use Rattle.states.specs.State.{recordAt}
 use Rattle.states.specs.Sound.{limit, StateSound}
 use Rattle.effects.specs.declared.Applied.{Applied}
 use Rattle.rulings.specs.declared.Ruling.{Ruling}
-use Rattle.rulings.specs.Steps.{tooSoon, reopened, isOpen}
+use Rattle.task_steps.specs.Steps.{tooSoon, reopened, isOpen}
 use Rattle.effects.specs.Steps.{expiredAll}
 use Rattle.effects.specs.Apply.{accepted, refused, ticked, releasedAt, completedAt, byKind, timed, acted}
 use Rattle.rulings.specs.Ruling.{seatOf, barOf, taken, kept, releaseOf, completionOf, ownOf, ruled}

@@ -14,11 +14,11 @@ use Rattle.laws.proofs.Stores.{length-filled, filled-below, filled-past}
 use Rattle.records.specs.declared.Record.{Record}
 use Rattle.records.specs.Closing.{closed}
 use Rattle.jobs.specs.Opening.{late, expired, noRecord}
-use Rattle.states.specs.declared.Best.{Best}
+use Rattle.choices.specs.declared.Best.{Best}
 use Rattle.states.specs.declared.State.{State}
 use Rattle.states.specs.Sound.{StateSound}
-use Rattle.states.specs.Choice.{none, better, bestTo}
-use Rattle.states.proofs.Least.{best-stored}
+use Rattle.choices.specs.Choice.{none, better, bestTo}
+use Rattle.choices.proofs.Least.{best-stored}
 use Rattle.effects.specs.Steps.{expiredAll}
 use Rattle.effects.specs.Apply.{toldOf, moved, accepted}
 use Rattle.effects.proofs.Places.{places}

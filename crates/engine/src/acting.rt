@@ -1,5 +1,7 @@
 // Acting on a sound state, in place: one state is held, so that an event copies nothing but its own task's record.
 use super::telling::told;
+use choices::Best;
+use choices::better_of;
 use effects::Answer;
 use effects::Applied;
 use events::Event;
@@ -9,9 +11,7 @@ use jobs::opening::is_late;
 use records::closing::close;
 use rulings::judging::rule;
 use rulings::judging::seat;
-use states::Best;
 use states::State;
-use states::choice::better_of;
 ghost use mathlib.Core.Path.{_≡_};
 ghost use Rattle.logs.specs.Log.{eventsOf};
 ghost use Rattle.states.specs.Sound.{StateSound};

@@ -1,6 +1,6 @@
 // The answer after an accepted event.
+use choices::Best;
 use effects::Answer;
-use states::Best;
 ghost use mathlib.Core.Path.{_≡_};
 ghost use Rattle.effects.specs.Apply.{toldOf};
 

@@ -7,9 +7,10 @@ use lib.ListN.{length, take, drop, length-append, length-drop, take-append-drop}
 use lib.Seq.{take-at, drop-at, take-add, length-take-le}
 use Rattle.laws.specs.Bytes.{AreBytes}
 use Rattle.laws.proofs.Bytes.{drop-bytes, take-bytes}
-use Rattle.words.specs.Words.{number, bytes}
-use Rattle.words.proofs.Places.{length-bytes}
-use Rattle.words.proofs.Trips.{number-of-bytes, bytes-of-number}
+use Rattle.words.specs.Words.{number}
+use Rattle.word_writing.specs.Bytes.{bytes}
+use Rattle.word_writing.proofs.Places.{length-bytes}
+use Rattle.word_writing.proofs.Trips.{number-of-bytes, bytes-of-number}
 use Rattle.events.specs.declared.Event.{Event}
 use Rattle.events.specs.declared.Reading.the-variants as R
 use Rattle.events.specs.Event.{Ruled}

@@ -10,9 +10,9 @@ use lib.Dec.{ltb, eqb}
 use lib.ListN.{length, take, drop, set, length-drop, length-append}
 use lib.Seq.{take-at, drop-at, drop-drop, drop-append-add}
 use Rattle.laws.proofs.Parts.{tail-is, tail-last}
-use Rattle.words.specs.Words.{bytes, wrote}
-use Rattle.words.proofs.Places.{length-bytes}
-use Rattle.words.proofs.Trips.{wrote-is}
+use Rattle.word_writing.specs.Bytes.{bytes, wrote}
+use Rattle.word_writing.proofs.Places.{length-bytes}
+use Rattle.word_writing.proofs.Trips.{wrote-is}
 use Rattle.events.specs.declared.Event.{Event}
 use Rattle.event_writing.specs.declared.Writing.{Writing}
 use Rattle.event_writing.specs.declared.Writing.the-variants as W

@@ -4,7 +4,7 @@ use mathlib.Core.Bool.{cond}
 use mathlib.Core.List.{List, [], _∷_, _++_}
 use lib.Dec.{ltb, eqb}
 use lib.ListN.{length, drop}
-use Rattle.words.specs.Words.{bytes}
+use Rattle.word_writing.specs.Bytes.{bytes}
 use Rattle.events.specs.declared.Event.{Event}
 use Rattle.event_writing.specs.declared.Writing.{Writing}
 use Rattle.event_writing.specs.declared.Writing.the-variants as W

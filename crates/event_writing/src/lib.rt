@@ -5,7 +5,7 @@ ghost use mathlib.Core.Path.{_≡_};
 ghost use mathlib.Core.List.{_++_};
 ghost use Prim.Native.Nat.{_+_, _≤_};
 ghost use lib.ListN.{length, take, drop};
-ghost use Rattle.words.specs.Words.{bytes};
+ghost use Rattle.word_writing.specs.Bytes.{bytes};
 ghost use Rattle.event_writing.specs.Writing.{headOf, recordOf, wroteRecord, afterWrite};
 
 // What writing one record says.
@@ -30,7 +30,7 @@ fn put_number(out: &mut [u8], at: usize, x: u64)
     requires { ⌜ at + 8 ≤ length (now out) ⌝ }
     ensures { λ _. ⌜ now (out .exit) ≡ take at (now (out .entry)) ++ (bytes 8 x ++ drop (at + 8) (now (out .entry))) ⌝ }
 {
-    words::put64(&mut out[at..], x);
+    word_writing::put64(&mut out[at..], x);
 }
 
 // Stores the record of an event; there is room for it.

@@ -2,7 +2,6 @@
 ghost use mathlib.Core.Path.{_≡_};
 ghost use Prim.Native.Nat.{_≤_};
 ghost use lib.ListN.{length};
-ghost use Rattle.words.specs.Words.{bytes};
 ghost use Rattle.events.specs.Event.{faultOf};
 ghost use Rattle.events.specs.Record.{eventOf, readRecord};
 

@@ -15,7 +15,7 @@ use Rattle.records.specs.declared.Record.{Record}
 use Rattle.records.specs.Closing.{closed}
 use Rattle.jobs.specs.Opening.{expired, opened}
 use Rattle.soundness.proofs.Kept.{end}
-use Rattle.rulings.specs.Steps.{tooSoon, reopened}
+use Rattle.task_steps.specs.Steps.{tooSoon, reopened}
 use Rattle.effects.proofs.Kept.{spaced-by}
 use Rattle.histories.specs.History.{Job, closedJob}
 use Rattle.histories.proofs.Steps.{closed-idle, cleared, cleared-open, cleared-none, cleared-same, cleared-idle, Expired, over, stays, expiry, expired-same, expired-open}

@@ -26,11 +26,12 @@ use Rattle.soundness.specs.Sound.{soundHolds}
 use Rattle.states.specs.declared.State.{State}
 use Rattle.states.specs.State.{freshState}
 use Rattle.states.specs.Sound.{eachHolds, stateHolds}
-use Rattle.states.specs.Choice.{bestTo}
+use Rattle.choices.specs.Choice.{bestTo}
 use Rattle.response.specs.Fits.{firstFit}
 use Rattle.demands.specs.Demand.{demand}
 use Rattle.bounds.specs.declared.Bound.the-variants as Bound
-use Rattle.bounds.specs.Asked.{allAnswer, oneAnswer}
+use Rattle.all_bounds.specs.Asked.{allAnswer}
+use Rattle.bounds.specs.Asked.{oneAnswer}
 use Rattle.effects.specs.Apply.{ticked, releasedAt, completedAt, byKind, timed, acted, applied}
 use Rattle.histories.specs.History.{Job, stateAfter, recordAfter, jobsOf}
 use Rattle.guarantee.specs.ChosenTime.{standing, chosenTime}

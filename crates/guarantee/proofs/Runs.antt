@@ -21,17 +21,17 @@ use Rattle.records.specs.declared.Record.{Record}
 use Rattle.records.specs.Closing.{closed}
 use Rattle.soundness.proofs.Kept.{end}
 use Rattle.states.specs.declared.State.{State}
-use Rattle.states.specs.declared.Best.{Best}
+use Rattle.choices.specs.declared.Best.{Best}
 use Rattle.states.specs.State.{recordAt, freshState}
 use Rattle.states.specs.Choice.{chosen}
 use Rattle.jobs.proofs.Ranks.{Before}
-use Rattle.states.proofs.Least.{Chosen, Found, some, nothing, best-is}
+use Rattle.choices.proofs.Least.{Chosen, Found, some, nothing, best-is}
 use Rattle.states.proofs.Starting.{fresh-at}
 use Rattle.demands.specs.Above.{taskAt, isAbove}
 use Rattle.demands.proofs.Order.{above-tells}
 use Rattle.demands.proofs.Obeyed.{deadline-most}
 use Rattle.effects.specs.declared.Applied.{Applied}
-use Rattle.rulings.specs.Steps.{tooSoon, reopened}
+use Rattle.task_steps.specs.Steps.{tooSoon, reopened}
 use Rattle.effects.specs.Steps.{expiredAll}
 use Rattle.effects.specs.Apply.{accepted, applied}
 use Rattle.histories.specs.History.{stateAfter, recordAfter, accepts, isAccepted, jobsOf}

@@ -19,8 +19,8 @@ use Rattle.demands.specs.Demand.{spacingOf, demand}
 use Rattle.response.proofs.Meets.{bound-is}
 use Rattle.demands.proofs.Obeyed.{times}
 use Rattle.demands.proofs.Order.{above-tells, goes-on}
-use Rattle.bounds.specs.Asked.{allAnswer, boundCell}
-use Rattle.bounds.proofs.Exactly.{all-accepted}
+use Rattle.all_bounds.specs.Asked.{allAnswer, boundCell}
+use Rattle.all_bounds.proofs.Exactly.{all-accepted}
 use Rattle.guarantee.specs.Guarantee.{Promise, Guarantee}
 use Rattle.guarantee.specs.Premise.{Premise}
 use Rattle.guarantee.proofs.Required.{plain, plain-gates}

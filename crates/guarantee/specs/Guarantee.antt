@@ -10,7 +10,7 @@ use Rattle.windows.specs.Bound.{Kept}
 use Rattle.states.specs.declared.State.{State}
 use Rattle.states.specs.State.{freshState}
 use Rattle.demands.specs.Above.{taskAt}
-use Rattle.bounds.specs.Asked.{allAnswer, boundCell}
+use Rattle.all_bounds.specs.Asked.{allAnswer, boundCell}
 use Rattle.histories.specs.History.{Job, recordAfter, jobsOf, outcomesOf}
 use Rattle.guarantee.specs.Premise.{Premise}
 

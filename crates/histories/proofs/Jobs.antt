@@ -34,7 +34,7 @@ use Rattle.windows.proofs.Marks.{window-is}
 use Rattle.windows.proofs.Broken.{broken-is}
 use Rattle.windows.proofs.Rungs.{class-is, rung-is}
 use Rattle.demands.specs.Above.{taskAt}
-use Rattle.rulings.specs.Steps.{reopened}
+use Rattle.task_steps.specs.Steps.{reopened}
 use Rattle.effects.specs.Apply.{applied}
 use Rattle.histories.specs.History.{Job, stateAfter, recordAfter, closes, closedJob, jobsOf, outcomesOf}
 use Rattle.histories.proofs.Steps.{closed-same, closed-idle, cleared, cleared-open, cleared-none, cleared-same, Expired, over, stays, expiry, expired-same, expired-open}

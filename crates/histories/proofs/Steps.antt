@@ -9,7 +9,7 @@ use Rattle.laws.proofs.Tests.{true-not-false, both-hold}
 use Rattle.records.specs.declared.Record.{Record}
 use Rattle.records.specs.Closing.{closed}
 use Rattle.jobs.specs.Opening.{expired}
-use Rattle.rulings.specs.Steps.{isOpen}
+use Rattle.task_steps.specs.Steps.{isOpen}
 
 -- what a step does not touch
 pub record Same (r q : Record) : Type 0 where

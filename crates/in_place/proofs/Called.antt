@@ -25,7 +25,7 @@ use denote.Triple.Clauses.{ensured, lasts}
 use Rattle.events.specs.declared.Event.{Event}
 use Rattle.records.specs.declared.Record.{Record}
 use Rattle.jobs.specs.Opening.{expired}
-use Rattle.states.specs.declared.Best.{Best}
+use Rattle.choices.specs.declared.Best.{Best}
 use Rattle.effects.specs.declared.Answer.{Answer}
 use Rattle.rulings.specs.declared.Ruling.{Ruling}
 use Rattle.effects.specs.Apply.{toldOf}
@@ -36,8 +36,8 @@ use Rattle.events.proofs.Event as E
 use Rattle.events.proofs.Event.Laws as E′
 use Rattle.records.proofs.Record as R
 use Rattle.records.proofs.Record.Laws as R′
-use Rattle.states.proofs.Best as B
-use Rattle.states.proofs.Best.Laws as B′
+use Rattle.choices.proofs.Best as B
+use Rattle.choices.proofs.Best.Laws as B′
 use Rattle.effects.proofs.Answer as S
 use Rattle.effects.proofs.Answer.Laws as S′
 use Rattle.rulings.proofs.Ruling as Q

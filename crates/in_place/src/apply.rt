@@ -1,4 +1,5 @@
 // Applying an event in place, over a lent row and a clock: no copy of the row is made, and a refused event stores nothing.
+use choices::better_of;
 use effects::Answer;
 use effects::Applied;
 use events::Event;
@@ -9,7 +10,6 @@ use records::Record;
 use rulings::Ruling;
 use rulings::judging::rule;
 use states::State;
-use states::choice::better_of;
 use turns::Turn;
 use turns::steps::accepted_turn;
 use turns::steps::placed;

@@ -8,7 +8,7 @@ use Rattle.tables.specs.declared.Task.{Task}
 use Rattle.tables.specs.Rules.{noTask}
 use Rattle.thresholds.specs.Thresholds.{hOf}
 use Rattle.records.specs.declared.Record.{Record}
-use Rattle.records.specs.Window.{countOf}
+use Rattle.marks.specs.Marks.{countOf}
 use Rattle.records.specs.Closing.{closed}
 
 -- level 1 - h, run 0, and no job yet

@@ -1,9 +1,9 @@
 // A fresh record, an expired one, and one whose next job opens.
 use levels::class;
 use levels::low;
+use marks::counting::next;
 use records::Record;
 use records::closing::close;
-use records::counts::next;
 use tables::Task;
 use thresholds::h;
 ghost use mathlib.Core.Path.{_≡_};

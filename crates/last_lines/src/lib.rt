@@ -4,7 +4,7 @@ use records::closing::window;
 use texts::field;
 use texts::words;
 ghost use mathlib.Core.Path.{_≡_};
-ghost use Rattle.soundness.specs.Sound.{openOf};
+ghost use Rattle.balances.specs.Balance.{openOf};
 ghost use Rattle.texts.specs.Sheet.{sheet, puts};
 ghost use Rattle.listing_text.specs.TaskLines.{countsText, windowText, lastLine};
 

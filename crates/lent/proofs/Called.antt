@@ -24,15 +24,15 @@ use denote.Triple.Clauses.{ensured, lasts}
 use Rattle.records.specs.declared.Record.{Record}
 use Rattle.records.specs.Closing.{closed}
 use Rattle.soundness.specs.Sound.{soundHolds}
-use Rattle.states.specs.declared.Best.{Best}
-use Rattle.states.specs.Choice.{none, better}
+use Rattle.choices.specs.declared.Best.{Best}
+use Rattle.choices.specs.Choice.{none, better}
 use Rattle.lent.specs.Row.{admitted}
 use Rattle.records.proofs.Record as R
 use Rattle.records.proofs.Record.Laws as R′
-use Rattle.states.proofs.Best as B
-use Rattle.states.proofs.Best.Laws as B′
+use Rattle.choices.proofs.Best as B
+use Rattle.choices.proofs.Best.Laws as B′
 use Rattle.records.proofs.closing.close as close
-use Rattle.states.proofs.choice.better_of as better-of
+use Rattle.choices.proofs.better_of as better-of
 use Rattle.lent.proofs.choice.no_best as no-best
 use Rattle.lent.proofs.steps.admits as admits
 use Rattle.lent.proofs.steps.sound_on as sound-on

@@ -11,10 +11,11 @@ use Rattle.records.specs.declared.Record.{Record}
 use Rattle.jobs.specs.Opening.{noRecord}
 use Rattle.jobs.proofs.Ranks.{key-tells}
 use Rattle.laws.proofs.Tests.{true-not-false}
-use Rattle.states.specs.declared.Best.{Best}
+use Rattle.choices.specs.declared.Best.{Best}
 use Rattle.states.specs.declared.State.{State}
-use Rattle.states.specs.Choice.{bestTo, chosen}
-use Rattle.states.proofs.Least.{Found, some, nothing, best-is}
+use Rattle.choices.specs.Choice.{bestTo}
+use Rattle.states.specs.Choice.{chosen}
+use Rattle.choices.proofs.Least.{Found, some, nothing, best-is}
 use Rattle.lent.specs.Row.{rowOf, LeastIn}
 
 -- of a row of any length: the open job above every other one, or none, exactly if nothing is open

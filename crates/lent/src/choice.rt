@@ -1,10 +1,10 @@
 // The choice is made over a lent row of task records, of any length.
+use choices::Best;
+use choices::better_of;
 use records::Record;
-use states::Best;
-use states::choice::better_of;
 ghost use mathlib.Core.Path.{_≡_};
 ghost use lib.ListN.{length};
-ghost use Rattle.states.specs.Choice.{none, bestTo};
+ghost use Rattle.choices.specs.Choice.{none, bestTo};
 
 // No job is chosen where none is passed.
 pub fn no_best() -> Best

@@ -31,7 +31,8 @@ use Rattle.logs.specs.Log.{readable, restOf, eventsIn, eventsOf}
 use Rattle.logs.proofs.Records.{readable-fits}
 use Rattle.records.specs.declared.Record.{Record}
 use Rattle.records.specs.Window.{windowOf}
-use Rattle.soundness.specs.Sound.{openOf, Sound}
+use Rattle.balances.specs.Balance.{openOf}
+use Rattle.soundness.specs.Sound.{Sound}
 use Rattle.states.specs.declared.State.{State}
 use Rattle.states.specs.Sound.{limit, StateSound}
 use Rattle.states.specs.State.{recordAt, freshState}

@@ -17,7 +17,8 @@ use Rattle.tables.specs.Rules.{noTask}
 use Rattle.tables.specs.Judging.{judged}
 use Rattle.tables.proofs.Exactly.{judged-accepted}
 use Rattle.table_bytes.specs.Reading.{taskAt, recordAt, tableOf, beside, readAnswer, readTable}
-use Rattle.table_bytes.proofs.Exactly.{length-at, read-accepted, record-task}
+use Rattle.table_bytes.proofs.Exactly.{length-at, read-accepted}
+use Rattle.task_bytes.proofs.Exactly.{record-task}
 use Rattle.listing_text.specs.Listing.{countByte, tableThere, eventsFrom, tableBytes, eventBytes}
 
 pub beside-answer : (a : Answer) (t : Table) → beside a t .answer ≡ a

@@ -23,7 +23,8 @@ use Rattle.tables.proofs.Faults.{found-then}
 use Rattle.thresholds.proofs.Paper.{w-small, h-some}
 use Rattle.tables.proofs.Ruling.{fault-none}
 use Rattle.table_bytes.specs.Reading.{recordAt, recordFaultAt, bytesHold, tableOf, readAnswer, readTable}
-use Rattle.table_bytes.proofs.Exactly.{whole-tells, length-at, record-among}
+use Rattle.table_bytes.proofs.Exactly.{whole-tells, length-at}
+use Rattle.task_bytes.proofs.Exactly.{record-among}
 use Rattle.response.specs.declared.Found.{Found}
 use Rattle.response.specs.declared.Found.the-variants as Found
 use Rattle.demands.specs.Above.{taskAt}
@@ -41,20 +42,21 @@ use Rattle.levels.proofs.Needs.{level-told}
 use Rattle.records.specs.declared.Record.{Record}
 use Rattle.jobs.specs.Opening.{fresh, expired, noRecord}
 use Rattle.records.specs.Window.{windowOf}
-use Rattle.soundness.specs.Sound.{openOf, Sound}
+use Rattle.balances.specs.Balance.{openOf}
+use Rattle.soundness.specs.Sound.{Sound}
 use Rattle.soundness.proofs.Kept.{fresh-sound}
-use Rattle.states.specs.declared.Best.{Best}
+use Rattle.choices.specs.declared.Best.{Best}
 use Rattle.states.specs.declared.State.{State}
-use Rattle.states.specs.Choice.{bestTo}
+use Rattle.choices.specs.Choice.{bestTo}
 use Rattle.states.specs.Sound.{limit, StateSound, stateHolds}
 use Rattle.states.specs.State.{freshState}
-use Rattle.states.proofs.Least as Least
+use Rattle.choices.proofs.Least as Least
 use Rattle.effects.specs.declared.Answer.the-variants as Said
 use Rattle.states.specs.State.{recordAt as recordOf}
 use Rattle.effects.specs.declared.Answer.{Answer as Said}
 use Rattle.effects.specs.declared.Applied.{Applied}
 use Rattle.effects.specs.Apply.{answerOf, ticked, releasedAt, completedAt, byKind, timed, acted, applied}
-use Rattle.rulings.specs.Steps.{tooSoon, isOpen}
+use Rattle.task_steps.specs.Steps.{tooSoon, isOpen}
 use Rattle.effects.proofs.Kept.{applied-sound}
 use Rattle.listing_text.proofs.Input.{beside-answer}
 

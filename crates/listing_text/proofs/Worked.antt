@@ -9,7 +9,8 @@ use Rattle.words.specs.Words.{number}
 use Rattle.texts.specs.Decimal.{digitsIn, decimal}
 use Rattle.tables.specs.Rules.{taskFault}
 use Rattle.tables.specs.Judging.{firstFault, judged}
-use Rattle.table_bytes.specs.Reading.{recordFault, readAnswer, readTable}
+use Rattle.task_bytes.specs.Reading.{recordFault}
+use Rattle.table_bytes.specs.Reading.{readAnswer, readTable}
 use Rattle.response.specs.Fits.{firstFit}
 use Rattle.demands.specs.Demand.{demand}
 use Rattle.bounds.specs.Asked.{oneAnswer}
@@ -20,7 +21,7 @@ use Rattle.records.specs.Closing.{closed}
 use Rattle.jobs.specs.Opening.{expired, opened}
 use Rattle.soundness.specs.Sound.{soundHolds}
 use Rattle.states.specs.Sound.{eachHolds, stateHolds}
-use Rattle.states.specs.Choice.{bestTo}
+use Rattle.choices.specs.Choice.{bestTo}
 use Rattle.effects.specs.Apply.{ticked, releasedAt, completedAt, byKind, timed, acted, applied}
 use Rattle.listing_text.specs.TableLines.{taskLines, lastLines}
 use Rattle.listing_text.specs.LogLines.{eventLines, stateAfter, stopText}

@@ -7,7 +7,7 @@ use Rattle.bounds.specs.declared.Bound.{Bound}
 use Rattle.bounds.specs.declared.Bound.the-variants as Bound
 use Rattle.records.specs.declared.Record.{Record}
 use Rattle.records.specs.Window.{windowOf}
-use Rattle.soundness.specs.Sound.{openOf}
+use Rattle.balances.specs.Balance.{openOf}
 use Rattle.wording.specs.Fields.{fieldOf}
 use Rattle.wording.specs.Words.{taskWord, wWord, hWord, boundWord, noBoundWord, metWord, missedWord, openWord, windowWord, brokenWord, lineEnd}
 

@@ -5,7 +5,6 @@ use events::Event;
 use states::State;
 use tables::Table;
 use tables::Task;
-ghost use Prim.Native.Nat.{_≤_};
 
 fn task(x: u64) -> Task {
     let x1 = next(x);

@@ -1,3 +1,2 @@
 -- What is shown of a record beside the functions' contracts.
-pub mod Marks
 pub mod Steps

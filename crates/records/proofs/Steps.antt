@@ -9,7 +9,8 @@ use Rattle.laws.proofs.Tests.{true-not-false}
 use Rattle.levels.specs.Level.{classOf, raised, lowest}
 use Rattle.thresholds.specs.Thresholds.{wOf, hOf, topOf}
 use Rattle.records.specs.declared.Record.{Record}
-use Rattle.records.specs.Window.{countOf, pushed, brokenBy}
+use Rattle.marks.specs.Marks.{countOf, pushed}
+use Rattle.records.specs.Window.{brokenBy}
 use Rattle.records.specs.Closing.{setBack, closed}
 
 -- r with other values in the fields that closing changes

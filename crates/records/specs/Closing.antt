@@ -5,7 +5,8 @@ use lib.Dec.{eqb, leb}
 use Rattle.levels.specs.Level.{classOf, raised, lowest}
 use Rattle.thresholds.specs.Thresholds.{wOf, hOf, topOf}
 use Rattle.records.specs.declared.Record.{Record}
-use Rattle.records.specs.Window.{countOf, pushed, brokenBy}
+use Rattle.marks.specs.Marks.{countOf, pushed}
+use Rattle.records.specs.Window.{brokenBy}
 
 -- missed in class 0 or with run + 1 >= w
 abbrev pub setBack : Record → Bool

@@ -1,21 +1,9 @@
--- Document 01, "Window": the last K closed jobs as marks in a 64-bit word, their number of misses, and `broken`.
-use Prim.Native.Nat.{ℕ, _+_, _-_, _*_, _%_, _^_, min}
+-- Document 01, "Window": the misses in a task's window, and `broken`.
+use Prim.Native.Nat.{ℕ}
 use mathlib.Core.Bool.{cond}
 use lib.Dec.{eqb, ltb}
 use lib.Count.{ones}
 use Rattle.records.specs.declared.Record.{Record}
-
--- one more, as far as 64 bits count
-abbrev pub countOf : ℕ → ℕ
-countOf n = min (n + 1) (2 ^ 64 - 1)
-
--- of K marks the oldest makes room; a word has 64
-abbrev pub keptOf : ℕ → ℕ
-keptOf k = min k 64 - 1
-
--- the marks once a job has closed: the newest in the lowest place, 1 for a miss
-abbrev pub pushed : ℕ → ℕ → ℕ → ℕ
-pushed k marks miss = marks % 2 ^ keptOf k * 2 + miss
 
 -- the window number: the misses in the window
 abbrev pub windowOf : Record → ℕ

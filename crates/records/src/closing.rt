@@ -1,51 +1,18 @@
 // Closing a job: level, run, counts and window together.
 use super::Record;
-use super::counts::next;
 use levels::class;
 use levels::low;
 use levels::raise;
+use marks::counting::next;
+use marks::misses_in;
+use marks::push;
 use thresholds::h;
 use thresholds::top;
 use thresholds::w;
 ghost use mathlib.Core.Path.{_≡_};
 ghost use mathlib.Core.Bool.{true, false};
-ghost use Prim.Native.Nat.{_≤_, _<_, _^_};
-ghost use lib.Count.{ones};
-ghost use Rattle.records.specs.Window.{keptOf, pushed, windowOf, brokenBy};
+ghost use Rattle.records.specs.Window.{windowOf, brokenBy};
 ghost use Rattle.records.specs.Closing.{setBack, closed};
-
-// How many of the old marks stay before a new one comes: K - 1, and at most 63.
-fn kept(k: u8) -> u32
-    ensures { λ r. ⌜ (r ≡ keptOf k) × (r < 64) ⌝ }
-{
-    if k < 1 {
-        return 0;
-    }
-    if 64 < k {
-        return 63;
-    }
-    (k - 1) as u32
-}
-
-fn power(e: u32) -> u64
-    requires { ⌜ e < 64 ⌝ }
-    ensures { λ r. ⌜ r ≡ 2 ^ e ⌝ }
-{
-    1u64 << e
-}
-
-fn push(marks: u64, k: u8, miss: u64) -> u64
-    requires { ⌜ miss ≤ 1 ⌝ }
-    ensures { λ r. ⌜ r ≡ pushed k marks miss ⌝ }
-{
-    (marks % power(kept(k))) * 2 + miss
-}
-
-fn misses_in(marks: u64) -> u32
-    ensures { λ r. ⌜ r ≡ ones marks ⌝ }
-{
-    u64::count_ones(marks)
-}
 
 pub fn window(of: Record) -> u32
     ensures { λ r. ⌜ r ≡ windowOf of ⌝ }
@@ -81,7 +48,7 @@ fn sets_back(of: Record) -> bool
 fn close_met(of: Record) -> Record
     ensures { λ r. ⌜ r ≡ closed of true ⌝ }
 {
-    let marks = push(of.marks, of.task.k, 0);
+    let marks = push(of.marks, of.task.k, false);
     let broken = broken_by(of, marks);
     let level = raise(of.level, top(of.task.m, of.task.k));
     let met = next(of.met);
@@ -98,7 +65,7 @@ fn close_met(of: Record) -> Record
 fn close_missed(of: Record) -> Record
     ensures { λ r. ⌜ r ≡ closed of false ⌝ }
 {
-    let marks = push(of.marks, of.task.k, 1);
+    let marks = push(of.marks, of.task.k, true);
     let broken = broken_by(of, marks);
     let missed = next(of.missed);
     let mut r = of;

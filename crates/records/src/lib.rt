@@ -1,6 +1,5 @@
 // One task's record, by value, and what the closing of a job makes of it.
 pub mod closing;
-pub mod counts;
 
 use tables::Task;
 

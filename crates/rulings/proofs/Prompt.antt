@@ -9,7 +9,7 @@ use Rattle.laws.proofs.Tests.{by-test}
 use Rattle.records.specs.declared.Record.{Record}
 use Rattle.records.specs.Closing.{closed}
 use Rattle.jobs.specs.Opening.{late, expired, opened}
-use Rattle.rulings.specs.Steps.{reopened}
+use Rattle.task_steps.specs.Steps.{reopened}
 use Rattle.rulings.specs.Ruling.{seatOf}
 
 -- the seat is one of the places

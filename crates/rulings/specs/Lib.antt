@@ -1,3 +1,2 @@
 -- What the crate's contracts cite.
-pub mod Steps
 pub mod Ruling

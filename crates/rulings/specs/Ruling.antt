@@ -9,7 +9,7 @@ use Rattle.records.specs.Closing.{closed}
 use Rattle.jobs.specs.Opening.{expired}
 use Rattle.states.specs.Sound.{limit}
 use Rattle.rulings.specs.declared.Ruling.{Ruling}
-use Rattle.rulings.specs.Steps.{tooSoon, reopened, isOpen}
+use Rattle.task_steps.specs.Steps.{tooSoon, reopened, isOpen}
 
 -- where the event's task stands, or the first place where there is no such task
 abbrev pub seatOf : ℕ → ℕ → ℕ

@@ -1,13 +1,13 @@
 // An event against its own task, on values: 7, 8, 9, 10, then 11 or 12, and the task's record afterwards.
 use super::Ruling;
-use super::steps::is_open;
-use super::steps::reopen;
-use super::steps::too_soon;
 use events::Event;
 use events::judge;
 use jobs::opening::expire;
 use records::Record;
 use records::closing::close;
+use task_steps::is_open;
+use task_steps::reopen;
+use task_steps::too_soon;
 ghost use mathlib.Core.Path.{_≡_};
 ghost use Rattle.rulings.specs.Ruling.{seatOf, barOf, releaseOf, completionOf, ownOf, ruled};
 

@@ -1,6 +1,5 @@
 // An event against its own task, on values: whether it is refused, and the task's record afterwards.
 pub mod judging;
-mod steps;
 
 use records::Record;
 

@@ -20,8 +20,9 @@ use Rattle.tables.proofs.Ruling.{fault-none}
 use Rattle.records.specs.declared.Record.{Record}
 use Rattle.records.specs.Closing.{setBack, closed}
 use Rattle.jobs.specs.Opening.{fresh, expired, opened}
-use Rattle.records.specs.Window.{countOf, pushed, brokenBy}
-use Rattle.records.proofs.Marks.{pushed-fits, count-rises}
+use Rattle.marks.specs.Marks.{countOf, pushed}
+use Rattle.records.specs.Window.{brokenBy}
+use Rattle.marks.proofs.Marks.{pushed-fits, count-rises}
 use Rattle.records.proofs.Steps.{stays-below}
 use Rattle.soundness.specs.Sound.{Sound}
 

@@ -11,7 +11,8 @@ use Rattle.levels.specs.Level.{classOf, levelHolds}
 use Rattle.tables.specs.Rules.{taskFault}
 use Rattle.thresholds.specs.Thresholds.{wOf, hOf, topOf}
 use Rattle.records.specs.declared.Record.{Record}
-use Rattle.soundness.specs.Sound.{Sound, openOf, runHolds, rangesHold, openHolds, releasesHold, totalsHold, countsHold, soundHolds}
+use Rattle.soundness.specs.Sound.{Sound, runHolds, rangesHold, openHolds, releasesHold, soundHolds}
+use Rattle.balances.specs.Balance.{openOf, totalsHold, countsHold}
 
 not-live : (b : Bool) → b ≡ false → not b ≡ true
 not-live true e = sym e

@@ -3,16 +3,13 @@ use Prim.Native.Nat.{ℕ, _+_, _-_, _^_, min, _≤_, _<_}
 use mathlib.Core.Path.{_≡_}
 use mathlib.Core.Bool.{Bool, true, false, cond, not}
 use mathlib.Core.List.{[], _∷_}
-use lib.Dec.{eqb, leb, ltb}
+use lib.Dec.{eqb, leb}
 use Rattle.laws.specs.Tests.{allOf, whenever}
 use Rattle.levels.specs.Level.{classOf, levelHolds}
 use Rattle.tables.specs.Rules.{taskFault}
 use Rattle.thresholds.specs.Thresholds.{wOf, hOf, topOf}
 use Rattle.records.specs.declared.Record.{Record}
-
--- how many jobs are open: one or none
-abbrev pub openOf : Record → ℕ
-openOf r = cond (r .live) 1 0
+use Rattle.balances.specs.Balance.{openOf, countsHold}
 
 pub record Sound (r : Record) (clock : ℕ) : Type 0 where
   -- obeys the table rules
@@ -60,13 +57,6 @@ releasesHold r clock =
     ∷ leb (r .released) (r .last + 1)
     ∷ []
     )
-
-abbrev pub totalsHold : Record → ℕ → Bool
-totalsHold r closed = allOf (leb (r .broken) closed ∷ ltb (r .marks) (2 ^ min (r .task .k) closed) ∷ [])
-
-abbrev pub countsHold : Record → Bool
-countsHold r =
-    cond (eqb (r .released) (r .met + r .missed + openOf r)) (totalsHold r (r .met + r .missed)) false
 
 unfoldable pub soundHolds : Record → ℕ → Bool
 soundHolds r clock =

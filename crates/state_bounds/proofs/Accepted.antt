@@ -1,10 +1,8 @@
 -- The table of a sound state obeys the rules, so that after 15 no refusal of a table is left: each record's task does.
-use Prim.Native.Nat.{ℕ, _<_}
 use mathlib.Core.Path.{_≡_, ap, _∙_}
-use lib.ListN.{getD, replicate}
+use lib.ListN.{replicate}
 use Rattle.laws.proofs.Stores.{filled-below}
 use Rattle.tables.specs.declared.Answer.the-variants.{Accepted}
-use Rattle.tables.specs.declared.Task.{Task}
 use Rattle.tables.specs.Rules.{taskFault, noTask}
 use Rattle.tables.specs.Judging.{judged}
 use Rattle.tables.proofs.Exactly.{judged-accepted}

@@ -13,7 +13,8 @@ use Rattle.states.specs.State.{recordAt}
 use Rattle.states.specs.Sound.{stateHolds}
 use Rattle.bounds.specs.declared.Bound.{Bound}
 use Rattle.bounds.specs.declared.Bound.the-variants as Bound
-use Rattle.bounds.specs.Asked.{oneAnswer, allAnswer, allCells}
+use Rattle.bounds.specs.Asked.{oneAnswer}
+use Rattle.all_bounds.specs.Asked.{allAnswer, allCells}
 
 -- the table that a state's tasks make
 abbrev pub tableIn : State → Table

@@ -54,7 +54,7 @@ pub fn all(state: State, out: &mut [u32]) -> Answer
     ensures { λ r. ⌜ (r ≡ allOfState state (length (now (out .entry)))) × (now (out .exit) ≡ cellsOfState state (now (out .entry))) ⌝ }
 {
     if is_sound(state) {
-        return bounds::of_table::all(table_of(state), out);
+        return all_bounds::of_table::all(table_of(state), out);
     }
     Answer::Refused {
         number: 15,

@@ -1,5 +1,4 @@
 -- What is shown of the state beside the functions' contracts.
 pub mod Each
-pub mod Least
 pub mod Sounding
 pub mod Starting

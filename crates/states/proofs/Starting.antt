@@ -14,11 +14,11 @@ use Rattle.tables.proofs.Exactly.{judged-accepted}
 use Rattle.records.specs.declared.Record.{Record}
 use Rattle.jobs.specs.Opening.{fresh, noRecord}
 use Rattle.soundness.proofs.Kept.{fresh-sound}
-use Rattle.states.specs.declared.Best.{Best}
+use Rattle.choices.specs.declared.Best.{Best}
 use Rattle.states.specs.State.{recordAt, freshState}
 use Rattle.states.specs.Sound.{StateSound}
 use Rattle.states.specs.Choice.{chosen}
-use Rattle.states.proofs.Least.{Found, some, nothing, best-is}
+use Rattle.choices.proofs.Least.{Found, some, nothing, best-is}
 
 module _ (t : Table) (good : judged t ≡ Accepted) where
   pub fresh-at : (i : ℕ) → i < t .count → recordAt (freshState t) i ≡ fresh (getD (t .tasks) i noTask)

@@ -1,28 +1,8 @@
--- Document 01, "Choice": over the tasks by position, the least open job so far; a job that is not open never wins.
-use Prim.Native.Nat.{ℕ, zero, suc, min}
-use mathlib.Core.Bool.{Bool, true, false, cond}
-use mathlib.Core.List.{List}
-use lib.Dec.{ltb}
-use lib.ListN.{getD}
-use Rattle.records.specs.declared.Record.{Record}
-use Rattle.jobs.specs.Opening.{noRecord}
-use Rattle.jobs.specs.Rank.{keyOf}
-use Rattle.states.specs.declared.Best.{Best}
+-- Document 01, "Choice": that of a state, over the tasks that it counts; it has 16 places.
+use Prim.Native.Nat.{min}
+use Rattle.choices.specs.declared.Best.{Best}
+use Rattle.choices.specs.Choice.{bestTo}
 use Rattle.states.specs.declared.State.{State}
-
-abbrev pub none : Best
-none = record { found = false; key = 0; at = 0 }
-
--- an open job wins over none, and over a greater key
-abbrev pub wins : Best → Bool → ℕ → Bool
-wins best live key = cond live (cond (best .found) (ltb key (best .key)) true) false
-
-abbrev pub better : Best → Record → ℕ → Best
-better best r at = cond (wins best (r .live) (keyOf r)) (record { found = true; key = keyOf r; at = at }) best
-
-unfoldable pub bestTo : List Record → ℕ → Best
-bestTo l zero = none
-bestTo l (suc n) = better (bestTo l n) (getD l n noRecord) n
 
 abbrev pub chosen : State → Best
 chosen s = bestTo (s .records) (min (s .count) 16)

@@ -1,38 +1,10 @@
-// The choice: the open job that is least by class, then by D, then by table position.
-use super::Best;
+// The choice of a state: over the tasks that it counts.
 use super::State;
-use jobs::rank::key;
-use records::Record;
+use choices::Best;
+use choices::better_of;
 ghost use mathlib.Core.Path.{_≡_};
 ghost use Prim.Native.Nat.{min};
-ghost use Rattle.states.specs.Choice.{wins, better, chosen};
-
-fn wins_over(best: Best, live: bool, key: u64) -> bool
-    ensures { λ r. ⌜ r ≡ wins best live key ⌝ }
-{
-    if live {
-        if best.found {
-            return key < best.key;
-        }
-        return true;
-    }
-    false
-}
-
-// The better of the best so far and the job at the next position; a tie stays with the earlier one.
-pub fn better_of(best: Best, record: Record, at: usize) -> Best
-    ensures { λ r. ⌜ r ≡ better best «record» at ⌝ }
-{
-    let rank = key(record);
-    if wins_over(best, record.live, rank) {
-        return Best {
-            found: true,
-            key: rank,
-            at: at,
-        };
-    }
-    best
-}
+ghost use Rattle.states.specs.Choice.{chosen};
 
 // A state has 16 places, and so has a table, whatever it counts.
 pub fn places(count: usize) -> usize

@@ -16,10 +16,3 @@ pub struct Started {
     pub answer: tables::Answer,
     pub state: State,
 }
-
-// The least open job so far, if there is one.
-pub struct Best {
-    pub found: bool,
-    pub key: u64,
-    pub at: usize,
-}

@@ -12,8 +12,10 @@ use Rattle.tables.specs.Rules.{taskFault, noTask}
 use Rattle.tables.specs.Judging.{judged}
 use Rattle.tables.specs.Tidy.{Tidy}
 use Rattle.tables.proofs.Exactly.{judged-accepted}
-use Rattle.table_bytes.specs.Reading.{Marked, Whole, recordAt, taskAt, tableOf, readAnswer, readTable}
-use Rattle.table_bytes.proofs.Exactly.{read-accepted, record-task, length-at}
+use Rattle.task_bytes.specs.Reading.{Marked}
+use Rattle.table_bytes.specs.Reading.{Whole, recordAt, taskAt, tableOf, readAnswer, readTable}
+use Rattle.table_bytes.proofs.Exactly.{read-accepted, length-at}
+use Rattle.task_bytes.proofs.Exactly.{record-task}
 
 -- the table of all records, good or not
 abbrev pub count : List ℕ → ℕ

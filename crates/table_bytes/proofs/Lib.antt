@@ -1,4 +1,3 @@
 -- What is shown of the table's bytes beside the functions' contracts.
 pub mod Exactly
-pub mod Rows
 pub mod Given

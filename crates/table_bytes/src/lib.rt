@@ -3,13 +3,6 @@ pub mod reading;
 
 use tables::Answer;
 use tables::Table;
-use tables::Task;
-
-// What one table record reads as.
-pub enum Row {
-    Task(Task),
-    Refused(u8),
-}
 
 // The table beside the answer: no tasks where it is refused.
 pub struct TableRead {

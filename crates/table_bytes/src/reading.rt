@@ -1,64 +1,16 @@
 // Reading table bytes: 1 first, then record by record 2, 3, 4.
-use super::Row;
 use super::TableRead;
 use tables::Answer;
 use tables::Table;
 use tables::Task;
-use tables::rules::judge_task;
+use task_bytes::Row;
+use task_bytes::read_task;
 ghost use mathlib.Core.Path.{_≡_};
 ghost use Prim.Native.Nat.{_*_, _≤_};
 ghost use lib.ListN.{length};
 ghost use Rattle.tables.specs.declared.Answer.the-variants.{Refused};
 ghost use Rattle.tables.specs.Judging.{firstFault};
-ghost use Rattle.table_bytes.specs.Reading.{taskOf, readRow, recordFaultAt, noTable, tableOf, beside, readTable};
-
-// The caller's 16 bytes, so that the fields are taken from a copy.
-fn copied(bytes: &[u8]) -> [u8; 16]
-    requires { ⌜ length (now bytes) ≡ 16 ⌝ }
-    ensures { λ r. ⌜ r ≡ now (bytes .entry) ⌝ }
-{
-    let mut copy = [0u8; 16];
-    let mut i: usize = 0;
-    while i < 16 {
-        copy[i] = bytes[i];
-        i += 1;
-    }
-    copy
-}
-
-fn task_of(row: &[u8]) -> Task
-    requires { ⌜ length (now row) ≡ 16 ⌝ }
-    ensures { λ r. ⌜ r ≡ taskOf (now (row .entry)) ⌝ }
-{
-    Task {
-        c: words::get32(&row[2..]),
-        d: words::get32(&row[6..]),
-        t: words::get32(&row[10..]),
-        m: row[14],
-        k: row[15],
-    }
-}
-
-pub fn read_task(bytes: &[u8]) -> Row
-    ensures { λ r. ⌜ r ≡ readRow (now (bytes .entry)) ⌝ }
-{
-    if bytes.len() != 16 {
-        return Row::Refused(1);
-    }
-    let copy = copied(bytes);
-    if copy[0] != 0x54 {
-        return Row::Refused(2);
-    }
-    if copy[1] != 0x4B {
-        return Row::Refused(2);
-    }
-    let task = task_of(&copy);
-    let fault = judge_task(task);
-    if fault != 0 {
-        return Row::Refused(fault);
-    }
-    Row::Task(task)
-}
+ghost use Rattle.table_bytes.specs.Reading.{recordFaultAt, noTable, tableOf, beside, readTable};
 
 fn no_table() -> Table
     ensures { λ r. ⌜ r ≡ noTable ⌝ }

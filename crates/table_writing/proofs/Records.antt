@@ -5,7 +5,7 @@ use mathlib.Core.List.{List, _++_}
 use native.Mathlib.Omega.{arith}
 use lib.ListN.{length, getD, drop, length-append}
 use lib.Seq.{paste, take-at, drop-append-add, drop-drop}
-use Rattle.words.specs.Words.{bytes}
+use Rattle.word_writing.specs.Bytes.{bytes}
 use Rattle.tables.specs.declared.Task.{Task}
 use Rattle.tables.specs.Rules.{noTask}
 use Rattle.table_writing.specs.Writing.{recordOf, recordsOf}

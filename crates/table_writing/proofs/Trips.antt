@@ -14,21 +14,23 @@ use Rattle.laws.specs.Stores.{filled}
 use Rattle.laws.proofs.Bytes.{drop-bytes, take-bytes}
 use Rattle.laws.proofs.Parts.{two-at}
 use Rattle.laws.proofs.Stores.{length-filled, filled-below, filled-past}
-use Rattle.words.specs.Words.{number, bytes}
-use Rattle.words.proofs.Trips.{number-of-bytes, bytes-of-number}
+use Rattle.words.specs.Words.{number}
+use Rattle.word_writing.specs.Bytes.{bytes}
+use Rattle.word_writing.proofs.Trips.{number-of-bytes, bytes-of-number}
 use Rattle.tables.specs.declared.Answer.the-variants.{Accepted}
 use Rattle.tables.specs.declared.Task.{Task}
 use Rattle.tables.specs.declared.Table.{Table}
 use Rattle.tables.specs.Rules.{Times, taskFault, noTask}
 use Rattle.tables.specs.Judging.{judged}
-use Rattle.table_bytes.specs.Reading.{Marked, taskOf, recordFault, recordAt, taskAt, readAnswer, readTable}
+use Rattle.task_bytes.specs.Reading.{Marked, taskOf, recordFault}
+use Rattle.table_bytes.specs.Reading.{recordAt, taskAt, readAnswer, readTable}
 use Rattle.tables.specs.Tidy.{Tidy}
 use Rattle.table_writing.specs.Writing.{recordOf, recordsOf, writeAnswer, wroteTable}
 use Rattle.tables.proofs.Exactly.{judged-accepted}
 use Rattle.table_bytes.proofs.Exactly.{read-accepted, length-at}
 use Rattle.table_writing.proofs.Records.{length-record, length-records}
 use Rattle.tables.proofs.Ruling.{fault-none}
-use Rattle.table_bytes.proofs.Rows.{marked}
+use Rattle.task_bytes.proofs.Rows.{marked}
 use Rattle.table_bytes.proofs.Given.{count, given, whole, task-there, fault-there, given-good, given-is}
 use Rattle.table_writing.proofs.Written.{write-accepted, write-leaves}
 

@@ -16,9 +16,9 @@ fn record_of(task: Task) -> [u8; 16]
     let mut row = [0u8; 16];
     row[0] = 0x54;
     row[1] = 0x4B;
-    words::put32(&mut row[2..], task.c);
-    words::put32(&mut row[6..], task.d);
-    words::put32(&mut row[10..], task.t);
+    word_writing::put32(&mut row[2..], task.c);
+    word_writing::put32(&mut row[6..], task.d);
+    word_writing::put32(&mut row[10..], task.t);
     row[14] = task.m;
     row[15] = task.k;
     row

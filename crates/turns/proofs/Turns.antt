@@ -15,11 +15,11 @@ use Rattle.laws.proofs.Tests.{tells-true}
 use Rattle.events.specs.declared.Event.{Event}
 use Rattle.records.specs.declared.Record.{Record}
 use Rattle.jobs.specs.Opening.{expired, noRecord}
-use Rattle.states.specs.declared.Best.{Best}
+use Rattle.choices.specs.declared.Best.{Best}
 use Rattle.states.specs.declared.State.{State}
 use Rattle.states.specs.Sound.{StateSound, stateHolds}
-use Rattle.states.specs.Choice.{better, bestTo}
-use Rattle.states.proofs.Least.{best-within}
+use Rattle.choices.specs.Choice.{better, bestTo}
+use Rattle.choices.proofs.Least.{best-within}
 use Rattle.states.proofs.Sounding.{state-tells}
 use Rattle.effects.specs.declared.Answer.{Answer}
 use Rattle.effects.specs.declared.Answer.the-variants.{Refused}

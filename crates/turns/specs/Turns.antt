@@ -8,7 +8,7 @@ use Rattle.events.specs.declared.Event.{Event}
 use Rattle.records.specs.declared.Record.{Record}
 use Rattle.jobs.specs.Opening.{expired, noRecord}
 use Rattle.states.specs.Sound.{stateHolds}
-use Rattle.states.specs.Choice.{bestTo}
+use Rattle.choices.specs.Choice.{bestTo}
 use Rattle.effects.specs.declared.Answer.{Answer}
 use Rattle.effects.specs.declared.Answer.the-variants.{Refused}
 use Rattle.effects.specs.declared.Applied.{Applied}

@@ -1,5 +1,6 @@
 // What the walks do with an event and its ruling, on values.
 use super::Turn;
+use choices::Best;
 use effects::Answer;
 use effects::Applied;
 use engine::telling::told;
@@ -7,7 +8,6 @@ use events::Event;
 use records::Record;
 use rulings::Ruling;
 use rulings::judging::seat;
-use states::Best;
 use states::State;
 use tables::Task;
 ghost use mathlib.Core.Path.{_≡_};

@@ -14,7 +14,8 @@ use lib.Seq.{take-nil, drop-nil}
 use Rattle.tables.specs.declared.Task.{Task}
 use Rattle.tables.specs.Rules.{Misses}
 use Rattle.records.specs.declared.Record.{Record}
-use Rattle.records.specs.Window.{pushed, brokenBy}
+use Rattle.marks.specs.Marks.{pushed}
+use Rattle.records.specs.Window.{brokenBy}
 use Rattle.records.specs.Closing.{closed}
 use Rattle.jobs.specs.Opening.{opened}
 use Rattle.windows.specs.Outcomes.{lastMisses, markOf, firstOver, firstJobs, Unbroken, BrokenAt}

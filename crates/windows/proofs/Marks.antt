@@ -13,7 +13,8 @@ use lib.Count.{ones, ones-cat}
 use Rattle.tables.specs.declared.Task.{Task}
 use Rattle.tables.specs.Rules.{Misses}
 use Rattle.records.specs.declared.Record.{Record}
-use Rattle.records.specs.Window.{pushed, windowOf}
+use Rattle.marks.specs.Marks.{pushed}
+use Rattle.records.specs.Window.{windowOf}
 use Rattle.records.specs.Closing.{closed}
 use Rattle.jobs.specs.Opening.{opened}
 use Rattle.windows.specs.Outcomes.{misses, lastMisses, markOf, wordOf}

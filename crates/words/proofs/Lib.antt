@@ -1,3 +1,2 @@
 -- The laws of little-endian numbers.
 pub mod Places
-pub mod Trips

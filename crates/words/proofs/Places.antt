@@ -1,15 +1,15 @@
--- What reading and writing one byte more does, at any width: the loops' steps, by induction on the place.
-use Prim.Native.Nat.{ℕ, zero, suc, _+_, _-_, _*_, _/_, _%_, _^_, _≤_, _<_}
-use mathlib.Core.Path.{_≡_, refl, ap}
-use mathlib.Core.List.{List, [], _∷_, _++_, append-assoc}
-use native.Mathlib.Nat.{pow-suc, pow-succ', pow-zero, pow-le-pow-right, div-div-eq-div-mul, div-one, lt-of-lt-of-le, not-suc-le-zero}
+-- What reading one byte more does, at any width: the loop's step, by induction on the place.
+use Prim.Native.Nat.{ℕ, zero, suc, _+_, _-_, _*_, _^_, _≤_, _<_}
+use mathlib.Core.Path.{_≡_, refl}
+use mathlib.Core.List.{List, [], _∷_}
+use native.Mathlib.Nat.{pow-suc, pow-zero, pow-le-pow-right, lt-of-lt-of-le, not-suc-le-zero}
 use native.Mathlib.Omega.{arith}
-use lib.ListN.{length, getD, take, drop, set}
-use lib.Seq.{take-nil, drop-cons, set-at}
+use lib.ListN.{getD, take, drop}
+use lib.Seq.{take-nil}
 use lib.Dec.{lit<}
 use Rattle.laws.specs.Bytes.{AreBytes}
 use Rattle.laws.proofs.Bytes.{drop-bytes}
-use Rattle.words.specs.Words.{number, bytes}
+use Rattle.words.specs.Words.{number}
 
 -- a number read from one place on is the byte there and the number from the next place on
 pub number-from : (k i : ℕ) (s : List ℕ) → number (take (suc k) (drop i s)) ≡ getD s i 0 + 256 * number (take k (drop (suc i) s))
@@ -25,22 +25,6 @@ unfolding number
 number-small zero s f = omega (arith, pow-zero 256)
 number-small (suc n) [] f = omega (arith, pow-suc 256 n, number-small n [] f)
 number-small (suc n) (b ∷ s) f = omega (arith, pow-suc 256 n, f 0, number-small n s (λ i. f (suc i)))
-
-pub length-bytes : (n x : ℕ) → length (bytes n x) ≡ n
-unfolding bytes
-length-bytes zero x = refl
-length-bytes (suc n) x = ap suc (length-bytes n (x / 256))
-
--- the last byte of one more
-pub bytes-last : (n x : ℕ) → bytes (suc n) x ≡ bytes n x ++ (x / 256 ^ n % 256) ∷ []
-unfolding bytes
-bytes-last zero x = rw (pow-zero, div-one)
-bytes-last (suc n) x = rw (bytes-last n (x / 256), div-div-eq-div-mul, pow-succ')
-
--- a store behind the bytes that are written writes one more
-pub bytes-store : (n x : ℕ) (s : List ℕ) → n < length s → set (bytes n x ++ drop n s) n (x / 256 ^ n % 256) ≡ bytes (suc n) x ++ drop (suc n) s
-bytes-store n x s h =
-    rw (drop-cons s n 0 h, set-at (bytes n x) (getD s n 0) (drop (suc n) s) (x / 256 ^ n % 256) n (length-bytes n x), bytes-last n x, append-assoc)
 
 -- reading from the last byte to the first: one place back
 pub number-back : (n i : ℕ) (s : List ℕ) → 0 < i → i ≤ n

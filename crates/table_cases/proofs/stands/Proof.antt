@@ -1,6 +1,5 @@
 -- `stands` is safe and ends: i stays within the row.
 use Prim.Native.Nat.{_-_, _≤_}
-use lib.ListN.{length}
 use borrow.Author.Needs.{needs}
 use Rattle.table_cases.proofs.stands.Statement.{statement}
 use Rattle.table_cases.proofs.stands.Tie as tie

@@ -1,6 +1,5 @@
 -- `thresholds` is safe and ends: i stays within the count.
 use Prim.Native.Nat.{_-_, _≤_}
-use lib.ListN.{length}
 use borrow.Author.Needs.{needs}
 use Rattle.table_cases.proofs.thresholds.Statement.{statement}
 use Rattle.table_cases.proofs.thresholds.Tie as tie

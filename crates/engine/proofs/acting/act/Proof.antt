@@ -11,7 +11,7 @@ use Rattle.laws.proofs.Parts.{tail-is}
 use Rattle.events.specs.Record.{readRecord}
 use Rattle.jobs.specs.Opening.{expired, noRecord}
 use Rattle.states.specs.declared.State.{State}
-use Rattle.states.proofs.Least.{best-within}
+use Rattle.choices.proofs.Least.{best-within}
 use Rattle.rulings.proofs.Prompt.{seat-below}
 use Rattle.effects.specs.declared.Applied.{Applied}
 use Rattle.effects.specs.Apply.{moved, acted, applied}

@@ -2,7 +2,7 @@
 use Prim.Native.Nat.{_<_, min}
 use mathlib.Core.Path.{_≡_}
 use native.Mathlib.Omega.{arith}
-use Rattle.states.proofs.Least.{best-within}
+use Rattle.choices.proofs.Least.{best-within}
 use borrow.Author.Needs.{needs}
 use Rattle.engine.proofs.log.stand.Statement.{statement}
 use Rattle.engine.proofs.log.stand.Tie as tie

@@ -48,8 +48,8 @@ use denote.Exit.{yes}
 use Rattle.events.specs.declared.Event.{Event}
 use Rattle.records.specs.declared.Record.{Record}
 use Rattle.jobs.specs.Opening.{expired, noRecord}
-use Rattle.states.specs.declared.Best.{Best}
-use Rattle.states.specs.Choice.{none, better}
+use Rattle.choices.specs.declared.Best.{Best}
+use Rattle.choices.specs.Choice.{none, better}
 use Rattle.effects.specs.declared.Answer.{Answer}
 use Rattle.effects.specs.Apply.{toldOf}
 use Rattle.engine.proofs.Settled.{Settling, settling-none}
@@ -58,8 +58,8 @@ use Rattle.events.proofs.Event as E
 use Rattle.events.proofs.Event.Laws as E′
 use Rattle.records.proofs.Record as R
 use Rattle.records.proofs.Record.Laws as R′
-use Rattle.states.proofs.Best as B
-use Rattle.states.proofs.Best.Laws as B′
+use Rattle.choices.proofs.Best as B
+use Rattle.choices.proofs.Best.Laws as B′
 use Rattle.effects.proofs.Answer as S
 use Rattle.effects.proofs.Answer.Laws as S′
 use Rattle.lent.proofs.Called.{record-val, record-vals, NoBest, BetterOf, to-no-best, to-better-of, goes-no-best, goes-better-of, no-best-gives, better-of-gives}
@@ -71,9 +71,9 @@ use Rattle.lent.proofs.While.{tests, scaled}
 use Rattle.jobs.proofs.opening.expire.Symbol as expire-def
 use Rattle.jobs.proofs.opening.expire.Symbol.{name as #jobs·opening·expire}
 use Rattle.jobs.proofs.opening.expire.Met as expire-thm
-use Rattle.states.proofs.choice.better_of.Symbol as better-of-def
-use Rattle.states.proofs.choice.better_of.Symbol.{name as #states·choice·better-of}
-use Rattle.states.proofs.choice.better_of.Met as better-of-thm
+use Rattle.choices.proofs.better_of.Symbol as better-of-def
+use Rattle.choices.proofs.better_of.Symbol.{name as #choices·better-of}
+use Rattle.choices.proofs.better_of.Met as better-of-thm
 use Rattle.lent.proofs.choice.no_best.Symbol as no-best-def
 use Rattle.lent.proofs.choice.no_best.Symbol.{name as #lent·choice·no-best}
 use Rattle.lent.proofs.choice.no_best.Met as no-best-thm
@@ -111,7 +111,7 @@ module _ {M : Type 1} (𝓤 : URA M) (H : Heap 𝓤) (A : Atoms 𝓤) (at-mem : 
   record Known : Type 2 where
     pub expire : Triple 𝓤 (𝓣 .C #jobs·opening·expire) (Expire 𝓤 H A at-mem run)
     pub no-best : Triple 𝓤 (𝓣 .C #lent·choice·no-best) (NoBest 𝓤 H A at-mem run)
-    pub better-of : Triple 𝓤 (𝓣 .C #states·choice·better-of) (BetterOf 𝓤 H A at-mem run)
+    pub better-of : Triple 𝓤 (𝓣 .C #choices·better-of) (BetterOf 𝓤 H A at-mem run)
     pub seat-of : Triple 𝓤 (𝓣 .C #turns·steps·seat-of) (SeatOf 𝓤 H A at-mem run)
     pub told-of : Triple 𝓤 (𝓣 .C #turns·steps·told-of) (ToldOf 𝓤 H A at-mem run)
 
@@ -353,7 +353,7 @@ settle-in-spec 𝓤 H 𝓜 𝓖 𝓡 =
     (record {
       expire = cited 𝓤 H (Expire 𝓤 H (𝓖 .A) (𝓜 .mem) (𝓡 .run)) 𝓜 𝓡 code.env #jobs·opening·expire expire-def.routine code.calls-jobs·opening·expire (expire-thm.met 𝓤 H 𝓜 𝓖 𝓡);
       no-best = cited 𝓤 H (NoBest 𝓤 H (𝓖 .A) (𝓜 .mem) (𝓡 .run)) 𝓜 𝓡 code.env #lent·choice·no-best no-best-def.routine code.calls-lent·choice·no-best (no-best-thm.met 𝓤 H 𝓜 𝓖 𝓡);
-      better-of = cited 𝓤 H (BetterOf 𝓤 H (𝓖 .A) (𝓜 .mem) (𝓡 .run)) 𝓜 𝓡 code.env #states·choice·better-of better-of-def.routine code.calls-states·choice·better-of (better-of-thm.met 𝓤 H 𝓜 𝓖 𝓡);
+      better-of = cited 𝓤 H (BetterOf 𝓤 H (𝓖 .A) (𝓜 .mem) (𝓡 .run)) 𝓜 𝓡 code.env #choices·better-of better-of-def.routine code.calls-choices·better-of (better-of-thm.met 𝓤 H 𝓜 𝓖 𝓡);
       seat-of = cited 𝓤 H (SeatOf 𝓤 H (𝓖 .A) (𝓜 .mem) (𝓡 .run)) 𝓜 𝓡 code.env #turns·steps·seat-of seat-of-def.routine code.calls-turns·steps·seat-of (seat-of-thm.met 𝓤 H 𝓜 𝓖 𝓡);
       told-of = cited 𝓤 H (ToldOf 𝓤 H (𝓖 .A) (𝓜 .mem) (𝓡 .run)) 𝓜 𝓡 code.env #turns·steps·told-of told-of-def.routine code.calls-turns·steps·told-of (told-of-thm.met 𝓤 H 𝓜 𝓖 𝓡);
     }

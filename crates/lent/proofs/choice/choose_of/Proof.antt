@@ -41,15 +41,15 @@ use denote.Triple.Table.{entered, cited}
 use denote.Triple.Walked.{says, Stays, stay-dropped, walkOf, goes-dropped, Walks, ends-at, walked, walk-meets}
 use denote.Exit.{yes}
 use denote.Triple.Clauses.{ensured, lasts}
-use Rattle.states.specs.Choice.{bestTo}
+use Rattle.choices.specs.Choice.{bestTo}
 use Rattle.records.specs.declared.Record.{Record}
-use Rattle.states.specs.declared.Best.{Best}
+use Rattle.choices.specs.declared.Best.{Best}
 use Rattle.lent.proofs.Called.{record-vals}
 use Rattle.lent.proofs.Rows.{shares-row, shared-back, array-row, row-array}
 use Rattle.records.proofs.Record as R
 use Rattle.records.proofs.Record.Laws as R′
-use Rattle.states.proofs.Best as B
-use Rattle.states.proofs.Best.Laws as B′
+use Rattle.choices.proofs.Best as B
+use Rattle.choices.proofs.Best.Laws as B′
 use Rattle.lent.proofs.choice.choose_in as choose-in
 use Rattle.lent.proofs.choice.choose_in.Symbol as choose-in-def
 use Rattle.lent.proofs.choice.choose_in.Symbol.{name as #lent·choice·choose-in}

@@ -4,7 +4,7 @@ use mathlib.Core.Path.{_≡_, refl, ap, _∙_}
 use native.Mathlib.Numerals.{add-one}
 use native.Mathlib.Omega.{arith}
 use borrow.Author.Needs.{needs}
-use Rattle.states.specs.Choice.{bestTo}
+use Rattle.choices.specs.Choice.{bestTo}
 use Rattle.states.proofs.choice.choose.Statement.{statement}
 use Rattle.states.proofs.choice.choose.Tie as tie
 

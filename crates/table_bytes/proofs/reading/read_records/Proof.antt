@@ -8,12 +8,13 @@ use borrow.Author.Needs.{needs}
 use lib.ListN.{take, drop, replicate}
 use Rattle.laws.specs.Stores.{filled}
 use Rattle.tables.specs.declared.Answer.the-variants.{Accepted}
-use Rattle.table_bytes.specs.declared.Row.{Row}
+use Rattle.task_bytes.specs.declared.Row.{Row}
 use Rattle.tables.specs.Rules.{noTask}
 use Rattle.tables.specs.Judging.{firstFault}
-use Rattle.table_bytes.specs.Reading.{recordAt, recordFaultAt, taskAt, readRow}
+use Rattle.table_bytes.specs.Reading.{recordAt, recordFaultAt, taskAt}
+use Rattle.task_bytes.specs.Reading.{readRow}
 use Rattle.tables.proofs.Faults.{none-more, found-at}
-use Rattle.table_bytes.proofs.Rows.{task-row, refused-row}
+use Rattle.task_bytes.proofs.Rows.{task-row, refused-row}
 use Rattle.table_bytes.proofs.reading.read_records.Statement.{statement}
 use Rattle.table_bytes.proofs.reading.read_records.Tie as tie
 

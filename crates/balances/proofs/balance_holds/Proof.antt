@@ -1,0 +1,33 @@
+-- `balance_holds` meets its contract: the parts are taken off one by one.
+use Prim.Native.Nat.{_+_}
+use mathlib.Core.Path.{sym}
+use native.Mathlib.Omega.{arith}
+use borrow.Author.Tests.{ne-eqb}
+use borrow.Author.Needs.{needs}
+use Rattle.balances.specs.Balance.{openOf}
+use Rattle.balances.proofs.Tested.{balance-is}
+use Rattle.balances.proofs.balance_holds.Statement.{statement}
+use Rattle.balances.proofs.balance_holds.Tie as tie
+
+returns : tie.Need-returns
+returns c =
+    let r = c .before .before .args .of in
+    sym (ne-eqb (r .released) (r .met + r .missed + openOf r) (λ e. omega (arith, c .if1 .taken)))
+
+returns-2 : tie.Need-returns-2
+returns-2 c =
+    let r = c .before .before .before .before .before .args .of in
+    sym (ne-eqb (r .released) (r .met + r .missed + openOf r) (λ e. omega (arith, c .if2 .taken, c .before .before .before .if1 .left)))
+
+open-of-requires : tie.Need-open-of-requires
+open-of-requires c κs = search needs
+
+returns-3 : tie.Need-returns-3
+returns-3 c =
+    let b = c .before .before in
+    let a = b .before .before .before in
+    let r = a .before .before .args .of in
+    rw (c .open-of .ensures) (balance-is (r .released) (r .met) (r .missed) (openOf r) (a .if1 .left) (b .if2 .left))
+
+pub balance-holds-spec : {M : Type 1} → statement M
+balance-holds-spec = tie.close (tie.spec returns returns-2 open-of-requires returns-3)

@@ -1,0 +1,2 @@
+-- What is shown of marks and counts beside the functions' contracts.
+pub mod Marks

@@ -1,0 +1,3 @@
+-- What is shown of one record beside the functions' contracts.
+pub mod Exactly
+pub mod Rows

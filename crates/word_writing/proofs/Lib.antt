@@ -1,0 +1,3 @@
+-- The laws of bytes written, and read back.
+pub mod Places
+pub mod Trips
