@@ -1,5 +1,6 @@
 #!/usr/bin/env python3
-"""promises.py: what docs/PROMISES.md names is there, every must-fail edit is named in it, and every public function says its whole answer.
+"""promises.py: what docs/PROMISES.md names is there, every must-fail edit is named in it, the forms of docs/DECISIONS.md stand where it says, and
+every public function says its whole answer.
 
 It prints each thing that is missing and fails if there is one."""
 import pathlib
@@ -63,8 +64,8 @@ def check_line(at, line, edit_column):
         if stem in declared and token not in declared[stem]:
             missing.append(f"{at}: `{token}` is not in {stem}")
     # `crate` File: the file stands in that crate
-    for crate, stem in re.findall(r"`(\w+)` ([A-Z]\w+) `", line):
-        if crate in crates and not any((CRATES / crate / kind / f"{stem}.antt").exists() for kind in ("specs", "proofs")):
+    for crate, stem in re.findall(r"`(\w+)` ([A-Z]\w+)\b", line):
+        if crate in crates and stem in declared and not any((CRATES / crate / kind / f"{stem}.antt").exists() for kind in ("specs", "proofs")):
             missing.append(f"{at}: {stem} is not in `{crate}`")
     # `crate`: `edit`, `edit`: the edits stand in that crate
     for crate, tokens in re.findall(r"`(\w+)`: ((?:`\w+`(?:, )?)+)", line):
@@ -107,6 +108,11 @@ def public_files(crate):
 
 
 decisions = read(ROOT / "docs/DECISIONS.md")
+# `crate/src/file.rt`: `function`, `function`: the named forms stand where the decisions say
+for file, tokens in re.findall(r"`(\w+/src/\w+\.rt)`: ((?:`\w+`(?:, )?)+)", decisions):
+    for token in re.findall(r"`(\w+)`", tokens):
+        if not (CRATES / file).exists() or not re.search(rf"\bfn {token}\(", read(CRATES / file)):
+            missing.append(f"docs/DECISIONS.md: {file} has no function {token}")
 count = 0
 for crate in sorted(p.parent.parent for p in CRATES.glob("*/src/lib.rt")):
     for path in public_files(crate):
