@@ -53,7 +53,7 @@ use Rattle.turns.proofs.steps.unsound_ruling as unsound-ruling
 use Rattle.turns.proofs.steps.accepted_turn as accepted-turn
 use Rattle.turns.proofs.steps.refused_turn as refused-turn
 use Rattle.turns.proofs.steps.placed as placed
-use Rattle.lent.proofs.Plain.{Gives, taken}
+use Rattle.walks.proofs.Plain.{Gives, taken}
 
 -- machine values, and the same as a list of one
 abbrev pub event-val : Event → Val

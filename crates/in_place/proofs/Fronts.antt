@@ -30,9 +30,9 @@ use Rattle.rulings.specs.Ruling.{seatOf, ruled}
 use Rattle.effects.proofs.Frame.{count-stays}
 use Rattle.engine.proofs.Rulings.{Decides, refused-by, accepted-by, decided}
 use Rattle.turns.specs.declared.Turn.{Turn}
-use Rattle.lent.specs.Row.{stateOf, rowOf}
+use Rattle.lent_rows.specs.Row.{stateOf, rowOf}
 use Rattle.turns.specs.Turns.{placedBy}
-use Rattle.lent.proofs.Choices.{best-front}
+use Rattle.lent_rows.proofs.Choices.{best-front}
 use Rattle.rulings.proofs.Prompt.{seat-below}
 use Rattle.turns.proofs.Turns.{Said}
 

@@ -4,8 +4,8 @@ use effects::Answer;
 use effects::Applied;
 use events::Event;
 use jobs::opening::expire;
-use lent::choice::no_best;
-use lent::sound::is_sound_in;
+use lent_rows::choice::no_best;
+use lent_rows::sound::is_sound_in;
 use records::Record;
 use rulings::Ruling;
 use rulings::judging::rule;
@@ -21,7 +21,7 @@ ghost use mathlib.Core.Path.{_≡_};
 ghost use Prim.Native.Nat.{_≤_, _<_};
 ghost use lib.ListN.{length};
 ghost use Rattle.effects.specs.Apply.{applied};
-ghost use Rattle.lent.specs.Row.{stateOf};
+ghost use Rattle.lent_rows.specs.Row.{stateOf};
 ghost use Rattle.turns.specs.Turns.{ruledRow, settledRow, rowAnswer};
 
 // 15 before all, then the ruling on the event's own task.

@@ -31,7 +31,7 @@ use Rattle.effects.proofs.Frame.{refused-stays}
 use Rattle.engine.proofs.Rulings.{Accepts, refused-by, accepted-by, decided}
 use Rattle.engine.proofs.Settled.{settledTo, Settling, settling-more, stored-first}
 use Rattle.turns.specs.declared.Turn.{Turn}
-use Rattle.lent.specs.Row.{stateOf}
+use Rattle.lent_rows.specs.Row.{stateOf}
 use Rattle.turns.specs.Turns.{seatIn, ruledRow, unsound, storedRow, settledRow, rowAnswer, acceptedTurn, refusedTurn}
 
 -- ---- the loop that settles a row

@@ -16,7 +16,7 @@ use Rattle.rulings.specs.declared.Ruling.{Ruling}
 use Rattle.effects.specs.Apply.{toldOf}
 use Rattle.rulings.specs.Ruling.{seatOf, kept, ruled}
 use Rattle.turns.specs.declared.Turn.{Turn}
-use Rattle.lent.specs.Row.{stateOf}
+use Rattle.lent_rows.specs.Row.{stateOf}
 
 abbrev pub unsound : Ruling
 unsound = kept 15 noRecord

@@ -60,11 +60,11 @@ use Rattle.effects.proofs.Applied as P
 use Rattle.effects.proofs.Applied.Laws as P′
 use Rattle.turns.proofs.Turn as U
 use Rattle.turns.proofs.Turn.Laws as U′
-use Rattle.lent.proofs.Called.{record-vals}
+use Rattle.walks.proofs.Values.{record-vals}
 use Rattle.in_place.proofs.Called.{event-val, event-vals, Placed, to-placed, goes-placed, placed-gives}
 use Rattle.in_place.proofs.Fronts.{placed-is}
-use Rattle.lent.proofs.Plain.{calls-plain}
-use Rattle.lent.proofs.Rows.{lends-row, row-back, array-row, row-whole, behind, cut-row, join-row}
+use Rattle.walks.proofs.Plain.{calls-plain}
+use Rattle.walks.proofs.Rows.{lends-row, row-back, array-row, row-whole, behind, cut-row, join-row}
 use Rattle.turns.proofs.Turns.{Said}
 use Rattle.in_place.proofs.apply.apply_in as apply-in
 use Rattle.in_place.proofs.apply.apply_in.Symbol as apply-in-def

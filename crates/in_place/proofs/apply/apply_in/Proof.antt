@@ -60,10 +60,10 @@ use Rattle.rulings.proofs.Ruling as Q
 use Rattle.rulings.proofs.Ruling.Laws as Q′
 use Rattle.turns.proofs.Turn as U
 use Rattle.turns.proofs.Turn.Laws as U′
-use Rattle.lent.proofs.Called.{record-vals}
+use Rattle.walks.proofs.Values.{record-vals}
 use Rattle.in_place.proofs.Called.{event-val, event-vals, ruling-val, AcceptedTurn, RefusedTurn, to-accepted-turn, to-refused-turn, goes-accepted-turn, goes-refused-turn, accepted-turn-gives, refused-turn-gives}
-use Rattle.lent.proofs.Plain.{calls-plain-last}
-use Rattle.lent.proofs.Rows.{shares-row, shared-back, lends-row, row-back}
+use Rattle.walks.proofs.Plain.{calls-plain-last}
+use Rattle.walks.proofs.Rows.{shares-row, shared-back, lends-row, row-back}
 use Rattle.turns.proofs.Turns.{Said, accepted-some, says-accepted, says-refused}
 use Rattle.in_place.proofs.apply.rule_in as rule-in
 use Rattle.in_place.proofs.apply.rule_in.Symbol as rule-in-def

@@ -46,7 +46,7 @@ use Rattle.jobs.specs.Opening.{noRecord}
 use Rattle.states.specs.Sound.{stateHolds}
 use Rattle.rulings.specs.declared.Ruling.{Ruling}
 use Rattle.rulings.specs.Ruling.{ruled}
-use Rattle.lent.specs.Row.{stateOf}
+use Rattle.lent_rows.specs.Row.{stateOf}
 use Rattle.turns.specs.Turns.{unsound, seatIn, ruledRow}
 use Rattle.events.proofs.Event as E
 use Rattle.events.proofs.Event.Laws as E′
@@ -54,16 +54,16 @@ use Rattle.records.proofs.Record as R
 use Rattle.records.proofs.Record.Laws as R′
 use Rattle.rulings.proofs.Ruling as Q
 use Rattle.rulings.proofs.Ruling.Laws as Q′
-use Rattle.lent.proofs.Called.{record-val, record-vals}
+use Rattle.walks.proofs.Values.{record-val, record-vals}
 use Rattle.in_place.proofs.Called.{event-val, event-vals, SeatOf, Rule, UnsoundRuling, to-seat-of, to-rule, to-unsound-ruling, goes-seat-of, goes-rule, goes-unsound-ruling, seat-of-gives, rule-gives, unsound-ruling-gives}
-use Rattle.lent.proofs.Plain.{calls-plain, calls-plain-last}
+use Rattle.walks.proofs.Plain.{calls-plain, calls-plain-last}
 use Rattle.rulings.proofs.Prompt.{seat-below}
 use Rattle.turns.proofs.Turns.{sound-here, ruled-sound, ruled-unsound}
-use Rattle.lent.proofs.While.{scaled}
-use Rattle.lent.proofs.sound.is_sound_in as is-sound-in
-use Rattle.lent.proofs.sound.is_sound_in.Symbol as is-sound-in-def
-use Rattle.lent.proofs.sound.is_sound_in.Symbol.{name as #lent·sound·is-sound-in}
-use Rattle.lent.proofs.sound.is_sound_in.Met as is-sound-in-thm
+use Rattle.walks.proofs.While.{scaled}
+use Rattle.lent_rows.proofs.sound.is_sound_in as is-sound-in
+use Rattle.lent_rows.proofs.sound.is_sound_in.Symbol as is-sound-in-def
+use Rattle.lent_rows.proofs.sound.is_sound_in.Symbol.{name as #lent-rows·sound·is-sound-in}
+use Rattle.lent_rows.proofs.sound.is_sound_in.Met as is-sound-in-thm
 use Rattle.turns.proofs.steps.seat_of.Symbol as seat-of-def
 use Rattle.turns.proofs.steps.seat_of.Symbol.{name as #turns·steps·seat-of}
 use Rattle.turns.proofs.steps.seat_of.Met as seat-of-thm
@@ -103,7 +103,7 @@ module _ {M : Type 1} (𝓤 : URA M) (H : Heap 𝓤) (A : Atoms 𝓤) (at-mem : 
 module _ {M : Type 1} (𝓤 : URA M) (H : Heap 𝓤) (A : Atoms 𝓤) (at-mem : Memory → SProp 𝓤) (run : Routine → Fun 𝓤) (C : Calls 𝓤 H) where
   -- the callees meet their contracts
   record Known : Type 2 where
-    pub is-sound-in : Triple 𝓤 (C #lent·sound·is-sound-in) (IsSoundIn 𝓤 H A at-mem run)
+    pub is-sound-in : Triple 𝓤 (C #lent-rows·sound·is-sound-in) (IsSoundIn 𝓤 H A at-mem run)
     pub seat-of : Triple 𝓤 (C #turns·steps·seat-of) (SeatOf 𝓤 H A at-mem run)
     pub rule : Triple 𝓤 (C #rulings·judging·rule) (Rule 𝓤 H A at-mem run)
     pub unsound-ruling : Triple 𝓤 (C #turns·steps·unsound-ruling) (UnsoundRuling 𝓤 H A at-mem run)
@@ -259,7 +259,7 @@ rule-in-spec 𝓤 H 𝓜 𝓖 𝓡 =
     (tables 𝓤 H 𝓜 𝓡 code.env .C) (tables 𝓤 H 𝓜 𝓡 code.env .Λ) #in-place·apply·rule-in code.function (code.unfolded 𝓤 H 𝓜 𝓡)
     (rule-in-meets 𝓤 H (𝓖 .A) (givenOf 𝓤 H 𝓜 𝓖) (𝓜 .mem) (𝓡 .run) (tablesOf 𝓤 H 𝓜 (tables 𝓤 H 𝓜 𝓡 code.env))
     (record {
-      is-sound-in = cited 𝓤 H (IsSoundIn 𝓤 H (𝓖 .A) (𝓜 .mem) (𝓡 .run)) 𝓜 𝓡 code.env #lent·sound·is-sound-in is-sound-in-def.routine code.calls-lent·sound·is-sound-in (is-sound-in-thm.met 𝓤 H 𝓜 𝓖 𝓡);
+      is-sound-in = cited 𝓤 H (IsSoundIn 𝓤 H (𝓖 .A) (𝓜 .mem) (𝓡 .run)) 𝓜 𝓡 code.env #lent-rows·sound·is-sound-in is-sound-in-def.routine code.calls-lent-rows·sound·is-sound-in (is-sound-in-thm.met 𝓤 H 𝓜 𝓖 𝓡);
       seat-of = cited 𝓤 H (SeatOf 𝓤 H (𝓖 .A) (𝓜 .mem) (𝓡 .run)) 𝓜 𝓡 code.env #turns·steps·seat-of seat-of-def.routine code.calls-turns·steps·seat-of (seat-of-thm.met 𝓤 H 𝓜 𝓖 𝓡);
       rule = cited 𝓤 H (Rule 𝓤 H (𝓖 .A) (𝓜 .mem) (𝓡 .run)) 𝓜 𝓡 code.env #rulings·judging·rule rule-def.routine code.calls-rulings·judging·rule (rule-thm.met 𝓤 H 𝓜 𝓖 𝓡);
       unsound-ruling = cited 𝓤 H (UnsoundRuling 𝓤 H (𝓖 .A) (𝓜 .mem) (𝓡 .run)) 𝓜 𝓡 code.env #turns·steps·unsound-ruling unsound-ruling-def.routine code.calls-turns·steps·unsound-ruling (unsound-ruling-thm.met 𝓤 H 𝓜 𝓖 𝓡);

@@ -62,21 +62,22 @@ use Rattle.choices.proofs.Best as B
 use Rattle.choices.proofs.Best.Laws as B′
 use Rattle.effects.proofs.Answer as S
 use Rattle.effects.proofs.Answer.Laws as S′
-use Rattle.lent.proofs.Called.{record-val, record-vals, NoBest, BetterOf, to-no-best, to-better-of, goes-no-best, goes-better-of, no-best-gives, better-of-gives}
+use Rattle.walks.proofs.Values.{record-val, record-vals}
+use Rattle.lent_rows.proofs.Called.{NoBest, BetterOf, to-no-best, to-better-of, goes-no-best, goes-better-of, no-best-gives, better-of-gives}
 use Rattle.in_place.proofs.Called.{event-val, event-vals, best-val, Expire, SeatOf, ToldOf, to-expire, to-seat-of, to-told-of, goes-expire, goes-seat-of, goes-told-of, expire-gives, seat-of-gives, told-of-gives}
-use Rattle.lent.proofs.Plain.{calls-plain}
+use Rattle.walks.proofs.Plain.{calls-plain}
 use Rattle.rulings.proofs.Prompt.{seat-below}
 use Rattle.turns.proofs.Turns.{settles-on, settled-at, settled-tells}
-use Rattle.lent.proofs.While.{tests, scaled}
+use Rattle.walks.proofs.While.{tests, scaled}
 use Rattle.jobs.proofs.opening.expire.Symbol as expire-def
 use Rattle.jobs.proofs.opening.expire.Symbol.{name as #jobs·opening·expire}
 use Rattle.jobs.proofs.opening.expire.Met as expire-thm
 use Rattle.choices.proofs.better_of.Symbol as better-of-def
 use Rattle.choices.proofs.better_of.Symbol.{name as #choices·better-of}
 use Rattle.choices.proofs.better_of.Met as better-of-thm
-use Rattle.lent.proofs.choice.no_best.Symbol as no-best-def
-use Rattle.lent.proofs.choice.no_best.Symbol.{name as #lent·choice·no-best}
-use Rattle.lent.proofs.choice.no_best.Met as no-best-thm
+use Rattle.lent_rows.proofs.choice.no_best.Symbol as no-best-def
+use Rattle.lent_rows.proofs.choice.no_best.Symbol.{name as #lent-rows·choice·no-best}
+use Rattle.lent_rows.proofs.choice.no_best.Met as no-best-thm
 use Rattle.turns.proofs.steps.seat_of.Symbol as seat-of-def
 use Rattle.turns.proofs.steps.seat_of.Symbol.{name as #turns·steps·seat-of}
 use Rattle.turns.proofs.steps.seat_of.Met as seat-of-thm
@@ -110,7 +111,7 @@ module _ {M : Type 1} (𝓤 : URA M) (H : Heap 𝓤) (A : Atoms 𝓤) (at-mem : 
   -- the callees meet their contracts
   record Known : Type 2 where
     pub expire : Triple 𝓤 (𝓣 .C #jobs·opening·expire) (Expire 𝓤 H A at-mem run)
-    pub no-best : Triple 𝓤 (𝓣 .C #lent·choice·no-best) (NoBest 𝓤 H A at-mem run)
+    pub no-best : Triple 𝓤 (𝓣 .C #lent-rows·choice·no-best) (NoBest 𝓤 H A at-mem run)
     pub better-of : Triple 𝓤 (𝓣 .C #choices·better-of) (BetterOf 𝓤 H A at-mem run)
     pub seat-of : Triple 𝓤 (𝓣 .C #turns·steps·seat-of) (SeatOf 𝓤 H A at-mem run)
     pub told-of : Triple 𝓤 (𝓣 .C #turns·steps·told-of) (ToldOf 𝓤 H A at-mem run)
@@ -352,7 +353,7 @@ settle-in-spec 𝓤 H 𝓜 𝓖 𝓡 =
     (settle-in-meets 𝓤 H (𝓖 .A) (givenOf 𝓤 H 𝓜 𝓖) (𝓜 .mem) (𝓡 .run) (tablesOf 𝓤 H 𝓜 (tables 𝓤 H 𝓜 𝓡 code.env))
     (record {
       expire = cited 𝓤 H (Expire 𝓤 H (𝓖 .A) (𝓜 .mem) (𝓡 .run)) 𝓜 𝓡 code.env #jobs·opening·expire expire-def.routine code.calls-jobs·opening·expire (expire-thm.met 𝓤 H 𝓜 𝓖 𝓡);
-      no-best = cited 𝓤 H (NoBest 𝓤 H (𝓖 .A) (𝓜 .mem) (𝓡 .run)) 𝓜 𝓡 code.env #lent·choice·no-best no-best-def.routine code.calls-lent·choice·no-best (no-best-thm.met 𝓤 H 𝓜 𝓖 𝓡);
+      no-best = cited 𝓤 H (NoBest 𝓤 H (𝓖 .A) (𝓜 .mem) (𝓡 .run)) 𝓜 𝓡 code.env #lent-rows·choice·no-best no-best-def.routine code.calls-lent-rows·choice·no-best (no-best-thm.met 𝓤 H 𝓜 𝓖 𝓡);
       better-of = cited 𝓤 H (BetterOf 𝓤 H (𝓖 .A) (𝓜 .mem) (𝓡 .run)) 𝓜 𝓡 code.env #choices·better-of better-of-def.routine code.calls-choices·better-of (better-of-thm.met 𝓤 H 𝓜 𝓖 𝓡);
       seat-of = cited 𝓤 H (SeatOf 𝓤 H (𝓖 .A) (𝓜 .mem) (𝓡 .run)) 𝓜 𝓡 code.env #turns·steps·seat-of seat-of-def.routine code.calls-turns·steps·seat-of (seat-of-thm.met 𝓤 H 𝓜 𝓖 𝓡);
       told-of = cited 𝓤 H (ToldOf 𝓤 H (𝓖 .A) (𝓜 .mem) (𝓡 .run)) 𝓜 𝓡 code.env #turns·steps·told-of told-of-def.routine code.calls-turns·steps·told-of (told-of-thm.met 𝓤 H 𝓜 𝓖 𝓡);

@@ -38,8 +38,9 @@ use denote.Triple.Walked.{says, Stays, stay-ref, stay-none, walkOf, AllGo, goes-
 use denote.Exit.{yes}
 use Rattle.records.specs.Closing.{closed}
 use Rattle.records.specs.declared.Record.{Record}
-use Rattle.lent.proofs.Called.{record-val, record-vals, Close, to-close, goes-close, close-gives}
-use Rattle.lent.proofs.Plain.{calls-plain}
+use Rattle.walks.proofs.Values.{record-val, record-vals}
+use Rattle.lent.proofs.Called.{Close, to-close, goes-close, close-gives}
+use Rattle.walks.proofs.Plain.{calls-plain}
 use Rattle.records.proofs.Record as R
 use Rattle.records.proofs.Record.Laws as R′
 use Rattle.records.proofs.closing.close.Symbol as close-def

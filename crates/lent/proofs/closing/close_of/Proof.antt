@@ -43,8 +43,8 @@ use Rattle.records.specs.declared.Record.{Record}
 use Rattle.records.specs.Closing.{closed}
 use Rattle.records.proofs.Record as R
 use Rattle.records.proofs.Record.Laws as R′
-use Rattle.lent.proofs.Called.{record-vals, record-val}
-use Rattle.lent.proofs.Locals.{local-lies, lies-apart}
+use Rattle.walks.proofs.Values.{record-vals, record-val}
+use Rattle.walks.proofs.Locals.{local-lies, lies-apart}
 use Rattle.lent.proofs.closing.close_in as close-in
 use Rattle.lent.proofs.closing.close_in.Symbol as close-in-def
 use Rattle.lent.proofs.closing.close_in.Symbol.{name as #lent·closing·close-in}

@@ -16,7 +16,7 @@ use Rattle.states.specs.declared.State.{State}
 use Rattle.choices.specs.Choice.{bestTo}
 use Rattle.states.specs.Choice.{chosen}
 use Rattle.choices.proofs.Least.{Found, some, nothing, best-is}
-use Rattle.lent.specs.Row.{rowOf, LeastIn}
+use Rattle.lent_rows.specs.Row.{rowOf, LeastIn}
 
 -- of a row of any length: the open job above every other one, or none, exactly if nothing is open
 pub row-least : (l : List Record) → Found l (length l) (bestTo l (length l))

@@ -45,24 +45,25 @@ use Rattle.jobs.specs.Opening.{noRecord}
 use Rattle.choices.specs.Choice.{none, better, bestTo}
 use Rattle.records.specs.declared.Record.{Record}
 use Rattle.choices.specs.declared.Best.{Best}
-use Rattle.lent.proofs.Called.{record-val, record-vals, NoBest, BetterOf, to-no-best, to-better-of, goes-no-best, goes-better-of, no-best-gives, better-of-gives}
-use Rattle.lent.proofs.Plain.{calls-plain}
-use Rattle.lent.proofs.While.{tests, scaled}
+use Rattle.walks.proofs.Values.{record-val, record-vals}
+use Rattle.lent_rows.proofs.Called.{NoBest, BetterOf, to-no-best, to-better-of, goes-no-best, goes-better-of, no-best-gives, better-of-gives}
+use Rattle.walks.proofs.Plain.{calls-plain}
+use Rattle.walks.proofs.While.{tests, scaled}
 use Rattle.records.proofs.Record as R
 use Rattle.records.proofs.Record.Laws as R′
 use Rattle.choices.proofs.Best as B
 use Rattle.choices.proofs.Best.Laws as B′
-use Rattle.lent.proofs.choice.no_best.Symbol as no-best-def
-use Rattle.lent.proofs.choice.no_best.Symbol.{name as #lent·choice·no-best}
-use Rattle.lent.proofs.choice.no_best.Met as no-best-thm
+use Rattle.lent_rows.proofs.choice.no_best.Symbol as no-best-def
+use Rattle.lent_rows.proofs.choice.no_best.Symbol.{name as #lent-rows·choice·no-best}
+use Rattle.lent_rows.proofs.choice.no_best.Met as no-best-thm
 use Rattle.choices.proofs.better_of.Symbol as better-of-def
 use Rattle.choices.proofs.better_of.Symbol.{name as #choices·better-of}
 use Rattle.choices.proofs.better_of.Met as better-of-thm
-use Rattle.lent.proofs.choice.choose_in.Key.{name as #lent·choice·choose-in}
-use Rattle.lent.proofs.choice.choose_in as choose-in
-use Rattle.lent.proofs.choice.choose_in.Statement as stated
-use Rattle.lent.proofs.choice.choose_in.Code as code
-use Rattle.lent.proofs.choice.choose_in.Code.Mir as body
+use Rattle.lent_rows.proofs.choice.choose_in.Key.{name as #lent-rows·choice·choose-in}
+use Rattle.lent_rows.proofs.choice.choose_in as choose-in
+use Rattle.lent_rows.proofs.choice.choose_in.Statement as stated
+use Rattle.lent_rows.proofs.choice.choose_in.Code as code
+use Rattle.lent_rows.proofs.choice.choose_in.Code.Mir as body
 
 abbrev stayed : Stays (choose-in.ended .signature .params) (choose-in.ended .kept)
 stayed = (stay-none-slice (0 ∷ []) tt (plain (λ _. R.the-row)) yes, tt)
@@ -127,7 +128,7 @@ module _ {M : Type 1} (𝓤 : URA M) (H : Heap 𝓤) (A : Atoms 𝓤) (W : Given
   Nearer-wf : WellFounded Nearer
   Nearer-wf = InvImage·wf (λ (t : State). n - t .i) (Nat·lt-wfRel .wf)
 
-  module _ (𝓣 : Tables 𝓤 H) (known-no-best : Triple 𝓤 (𝓣 .C #lent·choice·no-best) (NoBest 𝓤 H A at-mem run)) (known-better-of : Triple 𝓤 (𝓣 .C #choices·better-of) (BetterOf 𝓤 H A at-mem run)) (room : Room R.the-row n) where
+  module _ (𝓣 : Tables 𝓤 H) (known-no-best : Triple 𝓤 (𝓣 .C #lent-rows·choice·no-best) (NoBest 𝓤 H A at-mem run)) (known-better-of : Triple 𝓤 (𝓣 .C #choices·better-of) (BetterOf 𝓤 H A at-mem run)) (room : Room R.the-row n) where
     abbrev C : Calls 𝓤 H
     C = 𝓣 .C
 
@@ -216,7 +217,7 @@ module _ {M : Type 1} (𝓤 : URA M) (H : Heap 𝓤) (A : Atoms 𝓤) (W : Given
         looped q′ l₀ l₁ l₂ l₃ l₄ l₅ l₆ l₇ (record { i = 0; best = r; v = v; le = zero-le; is = is; said = none-yet ys r e })))))))))))
 
 module _ {M : Type 1} (𝓤 : URA M) (H : Heap 𝓤) (A : Atoms 𝓤) (W : Given 𝓤 H A) (at-mem : Memory → SProp 𝓤) (run : Routine → Fun 𝓤) (𝓣 : Tables 𝓤 H)
-    (known-no-best : Triple 𝓤 (𝓣 .C #lent·choice·no-best) (NoBest 𝓤 H A at-mem run)) (known-better-of : Triple 𝓤 (𝓣 .C #choices·better-of) (BetterOf 𝓤 H A at-mem run)) where
+    (known-no-best : Triple 𝓤 (𝓣 .C #lent-rows·choice·no-best) (NoBest 𝓤 H A at-mem run)) (known-better-of : Triple 𝓤 (𝓣 .C #choices·better-of) (BetterOf 𝓤 H A at-mem run)) where
   choose-in-walks : Walks 𝓤 H A choose-in.ended stayed (WpFn 𝓤 H (𝓣 .C) (𝓣 .Λ) code.function) (choose-in.clauses 𝓤 H A at-mem run)
   choose-in-walks = walked 𝓤 H A choose-in.ended stayed (choose-in.clauses 𝓤 H A at-mem run) (WpFn 𝓤 H (𝓣 .C) (𝓣 .Λ) code.function) (λ κs. (slice-vals, tt)) (λ κs. (shr-slice-tells (named 0) (κs .0) R.the-row, tt))
       (λ κs qs bounds a g are. via 𝓤 _ (fst∗ 𝓤 _ (emp 𝓤)) (walk 𝓤 H A W at-mem run (κs .0) (qs .0) (a .0 .ptr .0) (a .0 .ptr .1) (a .0 .name) (a .0 .now) 𝓣 known-no-best known-better-of (are .0 .0 .1) (are .0)))
@@ -228,7 +229,7 @@ pub choose-in-spec : {M : Type 1} → stated.statement M
 unfolding code.routine tablesOf
 choose-in-spec 𝓤 H 𝓜 𝓖 𝓡 =
     entered 𝓤 H (tripleOf 𝓤 H (𝓖 .A) choose-in.signature (choose-in.spec 𝓤 H (𝓖 .A) (𝓜 .mem) (𝓡 .run)))
-    (tables 𝓤 H 𝓜 𝓡 code.env .C) (tables 𝓤 H 𝓜 𝓡 code.env .Λ) #lent·choice·choose-in code.function (code.unfolded 𝓤 H 𝓜 𝓡)
+    (tables 𝓤 H 𝓜 𝓡 code.env .C) (tables 𝓤 H 𝓜 𝓡 code.env .Λ) #lent-rows·choice·choose-in code.function (code.unfolded 𝓤 H 𝓜 𝓡)
     (choose-in-meets 𝓤 H (𝓖 .A) (givenOf 𝓤 H 𝓜 𝓖) (𝓜 .mem) (𝓡 .run) (tablesOf 𝓤 H 𝓜 (tables 𝓤 H 𝓜 𝓡 code.env))
-    (cited 𝓤 H (NoBest 𝓤 H (𝓖 .A) (𝓜 .mem) (𝓡 .run)) 𝓜 𝓡 code.env #lent·choice·no-best no-best-def.routine code.calls-lent·choice·no-best (no-best-thm.met 𝓤 H 𝓜 𝓖 𝓡))
+    (cited 𝓤 H (NoBest 𝓤 H (𝓖 .A) (𝓜 .mem) (𝓡 .run)) 𝓜 𝓡 code.env #lent-rows·choice·no-best no-best-def.routine code.calls-lent-rows·choice·no-best (no-best-thm.met 𝓤 H 𝓜 𝓖 𝓡))
     (cited 𝓤 H (BetterOf 𝓤 H (𝓖 .A) (𝓜 .mem) (𝓡 .run)) 𝓜 𝓡 code.env #choices·better-of better-of-def.routine code.calls-choices·better-of (better-of-thm.met 𝓤 H 𝓜 𝓖 𝓡)))

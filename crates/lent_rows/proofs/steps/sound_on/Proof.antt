@@ -1,7 +1,7 @@
 -- `steps::sound_on` meets its contract: a record is looked at only where all before it were sound.
 use borrow.Author.Needs.{needs}
-use Rattle.lent.proofs.steps.sound_on.Statement.{statement}
-use Rattle.lent.proofs.steps.sound_on.Tie as tie
+use Rattle.lent_rows.proofs.steps.sound_on.Statement.{statement}
+use Rattle.lent_rows.proofs.steps.sound_on.Tie as tie
 
 sound-requires : tie.Need-sound-requires
 sound-requires c κs = search needs

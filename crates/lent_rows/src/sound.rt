@@ -4,7 +4,7 @@ use super::steps::sound_on;
 use records::Record;
 ghost use mathlib.Core.Path.{_≡_};
 ghost use Rattle.states.specs.Sound.{stateHolds};
-ghost use Rattle.lent.specs.Row.{stateOf};
+ghost use Rattle.lent_rows.specs.Row.{stateOf};
 
 pub fn is_sound_in(row: &[Record], clock: u64) -> bool
     ensures { λ r. ⌜ r ≡ stateHolds (stateOf (now (row .entry)) clock) ⌝ }

@@ -44,20 +44,20 @@ use denote.Triple.Clauses.{ensured, lasts}
 use Rattle.choices.specs.Choice.{bestTo}
 use Rattle.records.specs.declared.Record.{Record}
 use Rattle.choices.specs.declared.Best.{Best}
-use Rattle.lent.proofs.Called.{record-vals}
-use Rattle.lent.proofs.Rows.{shares-row, shared-back, array-row, row-array}
+use Rattle.walks.proofs.Values.{record-vals}
+use Rattle.walks.proofs.Rows.{shares-row, shared-back, array-row, row-array}
 use Rattle.records.proofs.Record as R
 use Rattle.records.proofs.Record.Laws as R′
 use Rattle.choices.proofs.Best as B
 use Rattle.choices.proofs.Best.Laws as B′
-use Rattle.lent.proofs.choice.choose_in as choose-in
-use Rattle.lent.proofs.choice.choose_in.Symbol as choose-in-def
-use Rattle.lent.proofs.choice.choose_in.Symbol.{name as #lent·choice·choose-in}
-use Rattle.lent.proofs.choice.choose_in.Met as choose-in-thm
-use Rattle.lent.proofs.choice.choose_of.Key.{name as #lent·choice·choose-of}
-use Rattle.lent.proofs.choice.choose_of as choose-of
-use Rattle.lent.proofs.choice.choose_of.Statement as stated
-use Rattle.lent.proofs.choice.choose_of.Code as code
+use Rattle.lent_rows.proofs.choice.choose_in as choose-in
+use Rattle.lent_rows.proofs.choice.choose_in.Symbol as choose-in-def
+use Rattle.lent_rows.proofs.choice.choose_in.Symbol.{name as #lent-rows·choice·choose-in}
+use Rattle.lent_rows.proofs.choice.choose_in.Met as choose-in-thm
+use Rattle.lent_rows.proofs.choice.choose_of.Key.{name as #lent-rows·choice·choose-of}
+use Rattle.lent_rows.proofs.choice.choose_of as choose-of
+use Rattle.lent_rows.proofs.choice.choose_of.Statement as stated
+use Rattle.lent_rows.proofs.choice.choose_of.Code as code
 
 -- how many records the array has
 abbrev size : ℕ
@@ -115,7 +115,7 @@ module _ {M : Type 1} (𝓤 : URA M) (H : Heap 𝓤) (A : Atoms 𝓤) (W : Given
   typed : T (hasTy arrTy av) × WT av
   typed = array-typed R.the-row (LL.lawful R.the-type R′.the-laws 𝓤 H A W .typed) size ys (av ∷ []) was .0
 
-  module _ (C : Calls 𝓤 H) (Λ : Loops 𝓤 H) (fm : FmC 𝓤 H (W .laws) C) (known : Triple 𝓤 (C #lent·choice·choose-in) (ChooseIn 𝓤 H A at-mem run)) where
+  module _ (C : Calls 𝓤 H) (Λ : Loops 𝓤 H) (fm : FmC 𝓤 H (W .laws) C) (known : Triple 𝓤 (C #lent-rows·choice·choose-in) (ChooseIn 𝓤 H A at-mem run)) where
     walk : ent 𝓤 (onEntry 𝓤 H A choose-of.signature tt tt (ys, tt) (av ∷ [], tt)) (WpFn 𝓤 H C Λ code.function (av ∷ []) Post)
     walk =
         qed W (‵ ftrue ∷ ‵ (owns (Array R.the-row size ∷ []) (ys, tt) (av ∷ [], tt)) ∷ []) ∵ enter ! C Λ code.function (av ∷ []) _ $
@@ -143,7 +143,7 @@ module _ {M : Type 1} (𝓤 : URA M) (H : Heap 𝓤) (A : Atoms 𝓤) (W : Given
         move ! (9 ∷ 10 ∷ []) $ free1 ! $ move ! (7 ∷ 8 ∷ []) $ free1 ! $ move ! (0 ∷ 6 ∷ []) $ free1 ! $ move ! (3 ∷ 4 ∷ []) $ free1 ! $ move ! (1 ∷ 2 ∷ []) $ free1 ! $ free0 ! $
         keep ! [] $ by ! (exits r v is e)))))))))))))
 
-module _ {M : Type 1} (𝓤 : URA M) (H : Heap 𝓤) (A : Atoms 𝓤) (W : Given 𝓤 H A) (at-mem : Memory → SProp 𝓤) (run : Routine → Fun 𝓤) (𝓣 : Tables 𝓤 H) (known : Triple 𝓤 (𝓣 .C #lent·choice·choose-in) (ChooseIn 𝓤 H A at-mem run)) where
+module _ {M : Type 1} (𝓤 : URA M) (H : Heap 𝓤) (A : Atoms 𝓤) (W : Given 𝓤 H A) (at-mem : Memory → SProp 𝓤) (run : Routine → Fun 𝓤) (𝓣 : Tables 𝓤 H) (known : Triple 𝓤 (𝓣 .C #lent-rows·choice·choose-in) (ChooseIn 𝓤 H A at-mem run)) where
   choose-of-walks : Walks 𝓤 H A choose-of.ended stayed (WpFn 𝓤 H (𝓣 .C) (𝓣 .Λ) code.function) (choose-of.clauses 𝓤 H A at-mem run)
   choose-of-walks = walked 𝓤 H A choose-of.ended stayed (choose-of.clauses 𝓤 H A at-mem run) (WpFn 𝓤 H (𝓣 .C) (𝓣 .Λ) code.function) (λ κs. (array-vals record-vals, tt)) (λ κs. (array-tells R.the-row record-vals (LL.tells R.the-type R′.the-laws) size, tt))
       (λ κs qs bounds a g are. via 𝓤 _ (fst∗ 𝓤 _ (emp 𝓤)) (walk 𝓤 H A W at-mem run (a .0) _ (are .0) (𝓣 .C) (𝓣 .Λ) (fmOf 𝓤 H (W .laws) 𝓣) known))
@@ -155,6 +155,6 @@ pub choose-of-spec : {M : Type 1} → stated.statement M
 unfolding code.routine tablesOf
 choose-of-spec 𝓤 H 𝓜 𝓖 𝓡 =
     entered 𝓤 H (tripleOf 𝓤 H (𝓖 .A) choose-of.signature (choose-of.spec 𝓤 H (𝓖 .A) (𝓜 .mem) (𝓡 .run)))
-    (tables 𝓤 H 𝓜 𝓡 code.env .C) (tables 𝓤 H 𝓜 𝓡 code.env .Λ) #lent·choice·choose-of code.function (code.unfolded 𝓤 H 𝓜 𝓡)
+    (tables 𝓤 H 𝓜 𝓡 code.env .C) (tables 𝓤 H 𝓜 𝓡 code.env .Λ) #lent-rows·choice·choose-of code.function (code.unfolded 𝓤 H 𝓜 𝓡)
     (choose-of-meets 𝓤 H (𝓖 .A) (givenOf 𝓤 H 𝓜 𝓖) (𝓜 .mem) (𝓡 .run) (tablesOf 𝓤 H 𝓜 (tables 𝓤 H 𝓜 𝓡 code.env))
-    (cited 𝓤 H (ChooseIn 𝓤 H (𝓖 .A) (𝓜 .mem) (𝓡 .run)) 𝓜 𝓡 code.env #lent·choice·choose-in choose-in-def.routine code.calls-lent·choice·choose-in (choose-in-thm.met 𝓤 H 𝓜 𝓖 𝓡)))
+    (cited 𝓤 H (ChooseIn 𝓤 H (𝓖 .A) (𝓜 .mem) (𝓡 .run)) 𝓜 𝓡 code.env #lent-rows·choice·choose-in choose-in-def.routine code.calls-lent-rows·choice·choose-in (choose-in-thm.met 𝓤 H 𝓜 𝓖 𝓡)))

@@ -4,7 +4,7 @@ use soundness::sound;
 ghost use mathlib.Core.Path.{_≡_};
 ghost use mathlib.Core.Bool.{cond, false};
 ghost use Rattle.soundness.specs.Sound.{soundHolds};
-ghost use Rattle.lent.specs.Row.{admitted};
+ghost use Rattle.lent_rows.specs.Row.{admitted};
 
 // What is asked of a state before any record is looked at.
 pub fn admits(count: usize, clock: u64) -> bool

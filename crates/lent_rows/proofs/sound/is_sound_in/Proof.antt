@@ -48,24 +48,25 @@ use Rattle.jobs.specs.Opening.{noRecord}
 use Rattle.tables.specs.Rules.{countHolds}
 use Rattle.soundness.specs.Sound.{soundHolds}
 use Rattle.states.specs.Sound.{limit, eachHolds, stateHolds}
-use Rattle.lent.specs.Row.{stateOf, admitted}
+use Rattle.lent_rows.specs.Row.{stateOf, admitted}
 use Rattle.records.specs.declared.Record.{Record}
-use Rattle.lent.proofs.Called.{record-val, record-vals, Admits, SoundOn, to-admits, to-sound-on, goes-admits, goes-sound-on, admits-gives, sound-on-gives}
-use Rattle.lent.proofs.Plain.{calls-plain}
-use Rattle.lent.proofs.While.{tests, scaled}
+use Rattle.walks.proofs.Values.{record-val, record-vals}
+use Rattle.lent_rows.proofs.Called.{Admits, SoundOn, to-admits, to-sound-on, goes-admits, goes-sound-on, admits-gives, sound-on-gives}
+use Rattle.walks.proofs.Plain.{calls-plain}
+use Rattle.walks.proofs.While.{tests, scaled}
 use Rattle.records.proofs.Record as R
 use Rattle.records.proofs.Record.Laws as R′
-use Rattle.lent.proofs.steps.admits.Symbol as admits-def
-use Rattle.lent.proofs.steps.admits.Symbol.{name as #lent·steps·admits}
-use Rattle.lent.proofs.steps.admits.Met as admits-thm
-use Rattle.lent.proofs.steps.sound_on.Symbol as sound-on-def
-use Rattle.lent.proofs.steps.sound_on.Symbol.{name as #lent·steps·sound-on}
-use Rattle.lent.proofs.steps.sound_on.Met as sound-on-thm
-use Rattle.lent.proofs.sound.is_sound_in.Key.{name as #lent·sound·is-sound-in}
-use Rattle.lent.proofs.sound.is_sound_in as is-sound-in
-use Rattle.lent.proofs.sound.is_sound_in.Statement as stated
-use Rattle.lent.proofs.sound.is_sound_in.Code as code
-use Rattle.lent.proofs.sound.is_sound_in.Code.Mir as body
+use Rattle.lent_rows.proofs.steps.admits.Symbol as admits-def
+use Rattle.lent_rows.proofs.steps.admits.Symbol.{name as #lent-rows·steps·admits}
+use Rattle.lent_rows.proofs.steps.admits.Met as admits-thm
+use Rattle.lent_rows.proofs.steps.sound_on.Symbol as sound-on-def
+use Rattle.lent_rows.proofs.steps.sound_on.Symbol.{name as #lent-rows·steps·sound-on}
+use Rattle.lent_rows.proofs.steps.sound_on.Met as sound-on-thm
+use Rattle.lent_rows.proofs.sound.is_sound_in.Key.{name as #lent-rows·sound·is-sound-in}
+use Rattle.lent_rows.proofs.sound.is_sound_in as is-sound-in
+use Rattle.lent_rows.proofs.sound.is_sound_in.Statement as stated
+use Rattle.lent_rows.proofs.sound.is_sound_in.Code as code
+use Rattle.lent_rows.proofs.sound.is_sound_in.Code.Mir as body
 
 abbrev stayed : Stays (is-sound-in.ended .signature .params) (is-sound-in.ended .kept)
 stayed = (stay-none-slice (0 ∷ []) tt (plain (λ _. R.the-row)) yes, (stay-dropped (plain (λ _. u64)) yes, tt))
@@ -159,7 +160,7 @@ module _ {M : Type 1} (𝓤 : URA M) (H : Heap 𝓤) (A : Atoms 𝓤) (W : Given
   Nearer-wf : WellFounded Nearer
   Nearer-wf = InvImage·wf (λ (t : State). n - t .i) (Nat·lt-wfRel .wf)
 
-  module _ (𝓣 : Tables 𝓤 H) (known-admits : Triple 𝓤 (𝓣 .C #lent·steps·admits) (Admits 𝓤 H A at-mem run)) (known-sound-on : Triple 𝓤 (𝓣 .C #lent·steps·sound-on) (SoundOn 𝓤 H A at-mem run)) (room : Room R.the-row n) where
+  module _ (𝓣 : Tables 𝓤 H) (known-admits : Triple 𝓤 (𝓣 .C #lent-rows·steps·admits) (Admits 𝓤 H A at-mem run)) (known-sound-on : Triple 𝓤 (𝓣 .C #lent-rows·steps·sound-on) (SoundOn 𝓤 H A at-mem run)) (room : Room R.the-row n) where
     abbrev C : Calls 𝓤 H
     C = 𝓣 .C
 
@@ -249,7 +250,7 @@ module _ {M : Type 1} (𝓤 : URA M) (H : Heap 𝓤) (A : Atoms 𝓤) (W : Given
         looped q′ l₀ l₁ l₂ l₃ l₄ l₅ l₆ l₇ l₈ l₉ (record { i = 0; holds = r; v = v; le = zero-le; is = is; said = none-yet ys c r e })))))))))))))
 
 module _ {M : Type 1} (𝓤 : URA M) (H : Heap 𝓤) (A : Atoms 𝓤) (W : Given 𝓤 H A) (at-mem : Memory → SProp 𝓤) (run : Routine → Fun 𝓤) (𝓣 : Tables 𝓤 H)
-    (known-admits : Triple 𝓤 (𝓣 .C #lent·steps·admits) (Admits 𝓤 H A at-mem run)) (known-sound-on : Triple 𝓤 (𝓣 .C #lent·steps·sound-on) (SoundOn 𝓤 H A at-mem run)) where
+    (known-admits : Triple 𝓤 (𝓣 .C #lent-rows·steps·admits) (Admits 𝓤 H A at-mem run)) (known-sound-on : Triple 𝓤 (𝓣 .C #lent-rows·steps·sound-on) (SoundOn 𝓤 H A at-mem run)) where
   is-sound-in-walks : Walks 𝓤 H A is-sound-in.ended stayed (WpFn 𝓤 H (𝓣 .C) (𝓣 .Λ) code.function) (is-sound-in.clauses 𝓤 H A at-mem run)
   is-sound-in-walks = walked 𝓤 H A is-sound-in.ended stayed (is-sound-in.clauses 𝓤 H A at-mem run) (WpFn 𝓤 H (𝓣 .C) (𝓣 .Λ) code.function) (λ κs. (slice-vals, (uint-vals w64, tt))) (λ κs. (shr-slice-tells (named 0) (κs .0) R.the-row, (uint-tells w64, tt)))
       (λ κs qs bounds a g are. via 𝓤 _ (fst∗ 𝓤 _ (emp 𝓤)) (walk 𝓤 H A W at-mem run (κs .0) (qs .0) (a .0 .ptr .0) (a .0 .ptr .1) (a .0 .name) (a .0 .now) (a .1 .0) (are .1 .0 .1) 𝓣 known-admits known-sound-on (are .0 .0 .1) (are .0)))
@@ -264,7 +265,7 @@ pub is-sound-in-spec : {M : Type 1} → stated.statement M
 unfolding code.routine tablesOf
 is-sound-in-spec 𝓤 H 𝓜 𝓖 𝓡 =
     entered 𝓤 H (tripleOf 𝓤 H (𝓖 .A) is-sound-in.signature (is-sound-in.spec 𝓤 H (𝓖 .A) (𝓜 .mem) (𝓡 .run)))
-    (tables 𝓤 H 𝓜 𝓡 code.env .C) (tables 𝓤 H 𝓜 𝓡 code.env .Λ) #lent·sound·is-sound-in code.function (code.unfolded 𝓤 H 𝓜 𝓡)
+    (tables 𝓤 H 𝓜 𝓡 code.env .C) (tables 𝓤 H 𝓜 𝓡 code.env .Λ) #lent-rows·sound·is-sound-in code.function (code.unfolded 𝓤 H 𝓜 𝓡)
     (is-sound-in-meets 𝓤 H (𝓖 .A) (givenOf 𝓤 H 𝓜 𝓖) (𝓜 .mem) (𝓡 .run) (tablesOf 𝓤 H 𝓜 (tables 𝓤 H 𝓜 𝓡 code.env))
-    (cited 𝓤 H (Admits 𝓤 H (𝓖 .A) (𝓜 .mem) (𝓡 .run)) 𝓜 𝓡 code.env #lent·steps·admits admits-def.routine code.calls-lent·steps·admits (admits-thm.met 𝓤 H 𝓜 𝓖 𝓡))
-    (cited 𝓤 H (SoundOn 𝓤 H (𝓖 .A) (𝓜 .mem) (𝓡 .run)) 𝓜 𝓡 code.env #lent·steps·sound-on sound-on-def.routine code.calls-lent·steps·sound-on (sound-on-thm.met 𝓤 H 𝓜 𝓖 𝓡)))
+    (cited 𝓤 H (Admits 𝓤 H (𝓖 .A) (𝓜 .mem) (𝓡 .run)) 𝓜 𝓡 code.env #lent-rows·steps·admits admits-def.routine code.calls-lent-rows·steps·admits (admits-thm.met 𝓤 H 𝓜 𝓖 𝓡))
+    (cited 𝓤 H (SoundOn 𝓤 H (𝓖 .A) (𝓜 .mem) (𝓡 .run)) 𝓜 𝓡 code.env #lent-rows·steps·sound-on sound-on-def.routine code.calls-lent-rows·steps·sound-on (sound-on-thm.met 𝓤 H 𝓜 𝓖 𝓡)))

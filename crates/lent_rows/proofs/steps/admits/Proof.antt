@@ -1,7 +1,7 @@
 -- `steps::admits` meets its contract: each test is the rule's own.
 use borrow.Author.Tests.{le-leb, lt-leb}
-use Rattle.lent.proofs.steps.admits.Statement.{statement}
-use Rattle.lent.proofs.steps.admits.Tie as tie
+use Rattle.lent_rows.proofs.steps.admits.Statement.{statement}
+use Rattle.lent_rows.proofs.steps.admits.Tie as tie
 
 returns : tie.Need-returns
 returns c = rw (lt-leb _ _ (c .if1 .taken))

@@ -1,0 +1,3 @@
+-- What the walks share, and what the choice over a row is.
+pub mod Called
+pub mod Choices

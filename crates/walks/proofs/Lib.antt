@@ -1,0 +1,6 @@
+-- The steps that walks share.
+pub mod Values
+pub mod Plain
+pub mod While
+pub mod Rows
+pub mod Locals

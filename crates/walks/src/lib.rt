@@ -1,0 +1,1 @@
+// No code: the steps of the proofs by hand stand in proofs/.
