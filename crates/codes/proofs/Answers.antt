@@ -1,12 +1,12 @@
 -- What an event of a log can be answered in a run: one of the tasks, none, or 9 to 12. 15 is out because every event keeps a sound state
 -- sound, 7 and 8 because what reads obeys the rules.
-use Prim.Native.Nat.{ℕ, min, _≤_}
+use Prim.Native.Nat.{ℕ, _^_, min, _≤_, _<_}
 use mathlib.Core.Path.{_≡_, refl, subst, _∙_}
 use mathlib.Core.Bool.{true}
 use mathlib.Core.List.{List, [], _∷_}
 use native.Mathlib.Omega.{arith}
 use borrow.Author.Tests.{eq-eqb}
-use lib.Dec.{eqb, leb, ltb}
+use lib.Dec.{eqb, leb, ltb, lit<}
 use lib.ListN.{set}
 use Rattle.laws.proofs.Tests.{by-test, tells-true}
 use Rattle.events.specs.declared.Event.{Event}
@@ -18,7 +18,7 @@ use Rattle.records.specs.Closing.{closed}
 use Rattle.jobs.specs.Opening.{expired}
 use Rattle.states.specs.declared.State.{State}
 use Rattle.states.specs.State.{recordAt}
-use Rattle.states.specs.Sound.{limit, StateSound}
+use Rattle.states.specs.Sound.{limit, StateSound, stateHolds}
 use Rattle.states.specs.Choice.{chosen}
 use Rattle.choices.proofs.Least.{found-below}
 use Rattle.states.proofs.Sounding.{state-tells}
@@ -31,7 +31,7 @@ use Rattle.effects.specs.Apply.{answerOf, moved, ticked, releasedAt, completedA
 use Rattle.effects.specs.Log.{standing, ranOver, ran}
 use Rattle.effects.proofs.Frame.{count-stays}
 use Rattle.effects.proofs.Kept.{applied-sound}
-use Rattle.codes.specs.Code.{Said}
+use Rattle.codes.specs.Code.{codeFor, ofAnswer, Said}
 
 answer-said : (s : State) → Said (s .count) (answerOf s)
 answer-said s =
@@ -97,3 +97,19 @@ pub said-16 : (n : ℕ) (a : Answer) → n ≤ 16 → Said n a → Said 16 a
 said-16 n (A.Run p c) l h = omega arith
 said-16 n A.Idle l h = tt
 said-16 n (A.Refused k) l h = h
+
+-- the code of a log's last answer is a number of 32 bits, whatever the state: one that is not sound is answered 15
+pub ran-fits : (s : State) (log : List ℕ) → codeFor (ofAnswer (ran s log .answer)) < 2 ^ 32
+unfolding ran
+ran-fits s log = by-test (λ (a : Applied). codeFor (ofAnswer (a .answer)) < 2 ^ 32) (stateHolds s) _ _ sound (λ e. lit< tt)
+  where
+    small : (a : Answer) → Said 16 a → codeFor (ofAnswer a) < 2 ^ 32
+    small (A.Run p c) h = omega arith
+    small A.Idle h = lit< tt
+    small (A.Refused k) h = omega arith
+
+    sound : stateHolds s ≡ true → codeFor (ofAnswer (ranOver (standing s) (eventsOf log) .answer)) < 2 ^ 32
+    sound e =
+        let p = state-tells s .holds e in
+        let a = ranOver (standing s) (eventsOf log) .answer in
+        small a (said-16 (s .count) a (p .counted .most) (over-said (s .count) (standing s) (eventsOf log) (all-ruled log) p refl (answer-said s)))

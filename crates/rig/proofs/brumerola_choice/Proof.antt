@@ -10,7 +10,7 @@ use Rattle.states.specs.declared.Started.{Started}
 use Rattle.states.specs.declared.State.{State}
 use Rattle.states.specs.State.{freshState, started}
 use Rattle.codes.specs.Code.{codeFor, logCase, codeOf}
-use Rattle.codes.proofs.Starts.{start-fresh, begins-sound}
+use Rattle.codes.proofs.Starts.{start-fresh}
 use Rattle.codes.proofs.Cases.{case-long, case-table, case-log}
 use Rattle.rig.proofs.brumerola_choice.Statement.{statement}
 use Rattle.rig.proofs.brumerola_choice.Tie as tie
@@ -60,7 +60,7 @@ begun c =
     ∙ ap (λ (x : TableRead). started (x .table) .state) (c .before .before .before .read .ensures) ∙ start-fresh (bytes c) (told c)
 
 log-code-requires : tie.Need-log-code-requires
-log-code-requires c κs = rw (begun c) (begins-sound (bytes c) (told c))
+log-code-requires c κs = search needs
 
 returns-3 : tie.Need-returns-3
 unfolding codeOf

@@ -1,8 +1,8 @@
--- `code_of` meets its contract: a chosen place is below 16.
+-- `code_of` meets its contract, case by case.
 use native.Mathlib.Omega.{arith}
 use borrow.Author.Needs.{needs}
-use Rattle.rig.proofs.code_of.Statement.{statement}
-use Rattle.rig.proofs.code_of.Tie as tie
+use Rattle.log_codes.proofs.code_of.Statement.{statement}
+use Rattle.log_codes.proofs.code_of.Tie as tie
 
 enum-known-answer : tie.Need-enum-known-answer
 enum-known-answer c = search needs

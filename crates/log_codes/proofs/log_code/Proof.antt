@@ -5,12 +5,11 @@ use native.Mathlib.Omega.{arith}
 use borrow.Author.Needs.{needs}
 use Rattle.events.specs.Record.{readRecord}
 use Rattle.effects.specs.declared.Applied.{Applied}
-use Rattle.effects.specs.Log.{ran}
 use Rattle.codes.specs.Code.{codeFor, ofAnswer}
-use Rattle.codes.proofs.Answers.{ran-said, said-16}
+use Rattle.codes.proofs.Answers.{ran-fits}
 use Rattle.codes.proofs.Cases.{case-stopped, case-ended}
-use Rattle.rig.proofs.log_code.Statement.{statement}
-use Rattle.rig.proofs.log_code.Tie as tie
+use Rattle.log_codes.proofs.log_code.Statement.{statement}
+use Rattle.log_codes.proofs.log_code.Tie as tie
 
 rest-requires : tie.Need-rest-requires
 rest-requires c κs = search needs
@@ -37,10 +36,8 @@ run-requires c κs = search needs
 
 code-of-requires : tie.Need-code-of-requires
 code-of-requires c κs =
-    let r = c .before .before .before .before .before in
-    let s = r .args .state in
-    let a = ran s (r .args .log .now) .answer in
-    rw (c .run .ensures) (said-16 (s .count) a (r .pre .counted .most) (ran-said s (r .args .log .now) (r .pre)))
+    let a = c .before .before .before .before .before .args in
+    rw (c .run .ensures) (ran-fits (a .state) (a .log .now))
 
 returns-2 : tie.Need-returns-2
 returns-2 c =
