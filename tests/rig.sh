@@ -8,14 +8,12 @@ compiler
 # build WORDS..: the client, by these words of the compiler
 build() { "$cc" -std=c99 -Wall -Wextra -Werror -O2 -I include "$@" tests/rig.c target/staticlib/librig.a -lpthread; }
 
-rt staticlib rig
-mkdir -p target/tests
+# the README's example, which builds the library: the line's log ends with no job open, and without its last event with the tension's
+[ "$(examples/choice.sh)" = "no job is open" ]
+head -c -20 examples/line.bin >target/tests/line.bin
+[ "$($run target/tests/choice target/tests/line.bin)" = "task 2 runs" ]
 build -static -o target/tests/rig
 $run target/tests/rig tests/cases/rig
-# the README's example: the line's log ends with no job open, and without its last event with the tension's
-head -c -20 examples/line.bin >target/tests/line.bin
-[ "$(examples/choice.sh)" = "no job is open" ]
-[ "$($run target/tests/choice target/tests/line.bin)" = "task 2 runs" ]
 if [ -z "$run" ]; then
     needs valgrind valgrind
     # with the C library as a file of its own, since valgrind knows its functions by it; the children that run into a guard on purpose are not reported
