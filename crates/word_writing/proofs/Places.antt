@@ -10,7 +10,7 @@ use Rattle.word_writing.specs.Bytes.{bytes}
 pub length-bytes : (n x : ℕ) → length (bytes n x) ≡ n
 unfolding bytes
 length-bytes zero x = refl
-length-bytes (suc n) x = ap suc (length-bytes n (x / 256))
+length-bytes (suc n) x = ap suc (length-bytes n _)
 
 -- the last byte of one more
 pub bytes-last : (n x : ℕ) → bytes (suc n) x ≡ bytes n x ++ (x / 256 ^ n % 256) ∷ []
