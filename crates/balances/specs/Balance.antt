@@ -4,11 +4,12 @@ use mathlib.Core.Bool.{Bool, false, cond}
 use mathlib.Core.List.{[], _∷_}
 use lib.Dec.{eqb, leb, ltb}
 use Rattle.laws.specs.Tests.{allOf}
+use Rattle.laws.specs.Numbers.{oneIf}
 use Rattle.records.specs.declared.Record.{Record}
 
 -- how many jobs are open: one or none
 abbrev pub openOf : Record → ℕ
-openOf r = cond (r .live) 1 0
+openOf r = oneIf (r .live)
 
 -- `broken` at most what has closed; no mark outside the lowest bits, as many as the lesser of K and what has closed
 abbrev pub totalsHold : Record → ℕ → Bool

@@ -1,8 +1,8 @@
 // Whether a record's counts agree, on any record: releases, met, missed and open, `broken` and the marks. No sum is made that could wrap.
+use marks::counting::one_if;
 use records::Record;
 ghost use mathlib.Core.Path.{_≡_};
 ghost use Prim.Native.Nat.{_+_, _^_, min};
-ghost use mathlib.Core.Bool.{cond};
 ghost use lib.Dec.{eqb, ltb};
 ghost use Rattle.balances.specs.Balance.{openOf, totalsHold, countsHold};
 
@@ -22,12 +22,6 @@ fn least(a: u64, b: u64) -> u64
     if a < b { a } else { b }
 }
 
-fn open_of(live: bool) -> u64
-    ensures { λ r. ⌜ r ≡ cond live 1 0 ⌝ }
-{
-    if live { 1 } else { 0 }
-}
-
 fn balance_holds(of: Record) -> bool
     ensures { λ r. ⌜ r ≡ eqb (of .released) (of .met + of .missed + openOf of) ⌝ }
 {
@@ -38,7 +32,7 @@ fn balance_holds(of: Record) -> bool
     if rest < of.missed {
         return false;
     }
-    rest - of.missed == open_of(of.live)
+    rest - of.missed == one_if(of.live)
 }
 
 fn totals_hold(of: Record, closed: u64) -> bool

@@ -8,12 +8,13 @@ use native.Mathlib.Decide.{decLe}
 use native.Mathlib.Omega.{arith}
 use borrow.Author.Tests.{le-leb, lt-leb}
 use lib.Dec.{leb}
+use Rattle.laws.specs.Numbers.{oneIf}
 use Rattle.laws.specs.Sums.{total}
 use Rattle.laws.proofs.Sums.{total-same}
 use Rattle.events.specs.declared.Event.{Event}
 use Rattle.states.specs.declared.State.{State}
 use Rattle.histories.specs.History.{stateAfter}
-use Rattle.guarantee.specs.ChosenTime.{standing, isChoice, tickOf, chosenTime}
+use Rattle.guarantee.specs.ChosenTime.{standing, isChoice, chosenTime}
 
 -- a longer sum is no smaller
 total-more : (f : ℕ → ℕ) (n k : ℕ) → total f n ≤ total f (n + k)
@@ -63,7 +64,7 @@ module _ (s : State) where
 
   module _ (i j d : ℕ) where
     abbrev tick : List Event → ℕ → ℕ
-    tick es y = tickOf (isChoice (standing s es y) i j)
+    tick es y = oneIf (isChoice (standing s es y) i j)
 
     pub time-rises : (es : List Event) (x y : ℕ) → x ≤ y → chosenTime s es i j d x ≤ chosenTime s es i j d y
     unfolding chosenTime
@@ -80,12 +81,12 @@ module _ (s : State) where
     pub time-before : (e : Event) (es : List Event) (x : ℕ) → x ≤ stateAfter s (e ∷ es) .clock → chosenTime s (e ∷ es) i j d x ≡ chosenTime s es i j d x
     unfolding chosenTime
     time-before e es x h =
-        total-same (tick (e ∷ es)) (tick es) (min x d) (λ y q. ap (λ (s : State). tickOf (isChoice s i j)) (stood e es y (omega arith)))
+        total-same (tick (e ∷ es)) (tick es) (min x d) (λ y q. ap (λ (s : State). oneIf (isChoice s i j)) (stood e es y (omega arith)))
 
     pub time-unmoved : (e : Event) (es : List Event) → stateAfter s (e ∷ es) ≡ stateAfter s es → (x : ℕ) → chosenTime s (e ∷ es) i j d x ≡ chosenTime s es i j d x
     unfolding chosenTime
     time-unmoved e es q x =
-        total-same (tick (e ∷ es)) (tick es) (min x d) (λ y h. ap (λ (s : State). tickOf (isChoice s i j)) (unmoved e es q y))
+        total-same (tick (e ∷ es)) (tick es) (min x d) (λ y h. ap (λ (s : State). oneIf (isChoice s i j)) (unmoved e es q y))
 
     -- the choice has every tick from the clock on, up to its deadline
     pub time-chosen : (es : List Event) (x : ℕ) → isChoice (stateAfter s es) i j ≡ true → stateAfter s es .clock ≤ x → x ≤ d
@@ -95,4 +96,4 @@ module _ (s : State) where
         let a = stateAfter s es .clock in
         let ex : min x d ≡ a + (x - a) = min-eq-left l ∙ omega arith in
         let ea : min a d ≡ a = min-eq-left (omega arith) in
-        rw (ex, ea) (total-ones (tick es) a (x - a) (λ y q. ap (λ (s : State). tickOf (isChoice s i j)) (stands es y q) ∙ ap tickOf c))
+        rw (ex, ea) (total-ones (tick es) a (x - a) (λ y q. ap (λ (s : State). oneIf (isChoice s i j)) (stands es y q) ∙ ap oneIf c))

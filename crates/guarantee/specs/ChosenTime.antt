@@ -3,6 +3,7 @@ use Prim.Native.Nat.{ℕ, _+_, min}
 use mathlib.Core.Bool.{Bool, false, cond}
 use mathlib.Core.List.{List, [], _∷_}
 use lib.Dec.{eqb, leb}
+use Rattle.laws.specs.Numbers.{oneIf}
 use Rattle.laws.specs.Sums.{total}
 use Rattle.events.specs.declared.Event.{Event}
 use Rattle.states.specs.declared.State.{State}
@@ -19,12 +20,9 @@ standing s (e ∷ es) y = cond (leb (stateAfter s (e ∷ es) .clock) y) (stateAf
 abbrev pub isChoice : State → ℕ → ℕ → Bool
 isChoice s i j = cond (chosen s .found) (cond (eqb (chosen s .at) i) (eqb (recordAt s i .released) j) false) false
 
-abbrev pub tickOf : Bool → ℕ
-tickOf b = cond b 1 0
-
 -- the ticks before x and before the deadline d at which job j of task i is the choice
 unfoldable pub chosenTime : State → List Event → ℕ → ℕ → ℕ → ℕ → ℕ
-chosenTime s es i j d x = total (λ y. tickOf (isChoice (standing s es y) i j)) (min x d)
+chosenTime s es i j d x = total (λ y. oneIf (isChoice (standing s es y) i j)) (min x d)
 
 -- of task i's open job after the run, up to tick x
 abbrev pub openTime : State → List Event → ℕ → ℕ → ℕ

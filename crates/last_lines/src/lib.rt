@@ -1,25 +1,19 @@
 // The line of a task as the events have left it, put into the lent bytes at a place; the answer is the place behind it.
+use marks::counting::one_if;
 use records::Record;
 use records::closing::window;
 use texts::field;
 use texts::words;
 ghost use mathlib.Core.Path.{_≡_};
-ghost use Rattle.balances.specs.Balance.{openOf};
 ghost use Rattle.texts.specs.Sheet.{sheet, puts};
 ghost use Rattle.listing_text.specs.TaskLines.{countsText, windowText, lastLine};
-
-fn open_of(record: Record) -> u64
-    ensures { λ r. ⌜ r ≡ openOf «record» ⌝ }
-{
-    if record.live { 1 } else { 0 }
-}
 
 fn counts_text(out: &mut [u8], at: usize, record: Record) -> usize
     ensures { λ r. ⌜ sheet (now (out .exit)) r ≡ puts (sheet (now (out .entry)) at) (countsText «record») ⌝ }
 {
     let a = field(out, at, b" met ", record.met);
     let b = field(out, a, b" missed ", record.missed);
-    field(out, b, b" open ", open_of(record))
+    field(out, b, b" open ", one_if(record.live))
 }
 
 fn window_text(out: &mut [u8], at: usize, record: Record) -> usize

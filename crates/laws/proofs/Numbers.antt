@@ -1,8 +1,13 @@
--- Rounding up and down, by the remainder's bound.
+-- One or none is at most one; rounding up and down, by the remainder's bound.
 use Prim.Native.Nat.{ℕ, suc, _+_, _-_, _*_, _/_, _≤_, _<_}
+use mathlib.Core.Bool.{Bool, true, false}
 use native.Mathlib.Nat.{div-add-mod, mod-lt, div-mul-le-self, le-div-iff-mul-le, div-lt-iff-lt-mul, le-mul-of-pos-right, le-trans}
 use native.Mathlib.Omega.{arith}
-use Rattle.laws.specs.Numbers.{ceiling}
+use Rattle.laws.specs.Numbers.{oneIf, ceiling}
+
+pub one-most : (b : Bool) → oneIf b ≤ 1
+one-most true = omega arith
+one-most false = omega arith
 
 -- a is at most b times a / b rounded up
 pub ceiling-covers : (a b : ℕ) → 1 ≤ b → a ≤ b * ceiling a b

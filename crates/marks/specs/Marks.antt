@@ -1,6 +1,5 @@
 -- Document 01, "Window": the last K closed jobs as marks in a 64-bit word, and a count that 64 bits hold.
 use Prim.Native.Nat.{ℕ, _+_, _-_, _*_, _%_, _^_, min}
-use mathlib.Core.Bool.{Bool, cond}
 
 -- one more, as far as 64 bits count
 abbrev pub countOf : ℕ → ℕ
@@ -10,10 +9,6 @@ countOf n = min (n + 1) (2 ^ 64 - 1)
 abbrev pub keptOf : ℕ → ℕ
 keptOf k = min k 64 - 1
 
--- a miss is marked 1
-abbrev pub markOf : Bool → ℕ
-markOf miss = cond miss 1 0
-
--- the marks once a job has closed: the newest in the lowest place
+-- the marks once a job has closed: the newest in the lowest place, 1 for a miss
 abbrev pub pushed : ℕ → ℕ → ℕ → ℕ
 pushed k marks mark = marks % 2 ^ keptOf k * 2 + mark

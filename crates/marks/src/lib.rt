@@ -1,10 +1,12 @@
 // The outcomes of a task's last K jobs as marks in a 64-bit word: the newest in bit 0, 1 for a miss.
 pub mod counting;
 
+use counting::one_if;
 ghost use mathlib.Core.Path.{_≡_};
-ghost use Prim.Native.Nat.{_≤_, _<_, _^_};
+ghost use Prim.Native.Nat.{_<_, _^_};
 ghost use lib.Count.{ones};
-ghost use Rattle.marks.specs.Marks.{keptOf, markOf, pushed};
+ghost use Rattle.laws.specs.Numbers.{oneIf};
+ghost use Rattle.marks.specs.Marks.{keptOf, pushed};
 
 // How many of the old marks stay before a new one comes: K - 1, and at most 63.
 fn kept(k: u8) -> u32
@@ -26,16 +28,10 @@ fn power(e: u32) -> u64
     1u64 << e
 }
 
-fn mark(miss: bool) -> u64
-    ensures { λ r. ⌜ (r ≡ markOf miss) × (r ≤ 1) ⌝ }
-{
-    if miss { 1 } else { 0 }
-}
-
 pub fn push(marks: u64, k: u8, miss: bool) -> u64
-    ensures { λ r. ⌜ r ≡ pushed k marks (markOf miss) ⌝ }
+    ensures { λ r. ⌜ r ≡ pushed k marks (oneIf miss) ⌝ }
 {
-    (marks % power(kept(k))) * 2 + mark(miss)
+    (marks % power(kept(k))) * 2 + one_if(miss)
 }
 
 pub fn misses_in(marks: u64) -> u32

@@ -19,15 +19,15 @@ returns-2 c =
     let r = c .before .before .before .before .before .args .of in
     sym (ne-eqb (r .released) (r .met + r .missed + openOf r) (λ e. omega (arith, c .if2 .taken, c .before .before .before .if1 .left)))
 
-open-of-requires : tie.Need-open-of-requires
-open-of-requires c κs = search needs
+one-if-requires : tie.Need-one-if-requires
+one-if-requires c κs = search needs
 
 returns-3 : tie.Need-returns-3
 returns-3 c =
     let b = c .before .before in
     let a = b .before .before .before in
     let r = a .before .before .args .of in
-    rw (c .open-of .ensures) (balance-is (r .released) (r .met) (r .missed) (openOf r) (a .if1 .left) (b .if2 .left))
+    rw (c .one-if .ensures) (balance-is (r .released) (r .met) (r .missed) (openOf r) (a .if1 .left) (b .if2 .left))
 
 pub balance-holds-spec : {M : Type 1} → statement M
-balance-holds-spec = tie.close (tie.spec returns returns-2 open-of-requires returns-3)
+balance-holds-spec = tie.close (tie.spec returns returns-2 one-if-requires returns-3)

@@ -20,8 +20,8 @@ field-requires-2 c κs = search needs
 slice-aggregate-field-3 : tie.Need-slice-aggregate-field-3
 slice-aggregate-field-3 c = search needs
 
-open-of-requires : tie.Need-open-of-requires
-open-of-requires c κs = search needs
+one-if-requires : tie.Need-one-if-requires
+one-if-requires c κs = search needs
 
 field-requires-3 : tie.Need-field-requires-3
 field-requires-3 c κs = search needs
@@ -36,7 +36,7 @@ returns c =
     let f1 = f2 .before .before .before .before .before in
     let a = f1 .before .before .before .before .args in
     let e3 = f3 .field3 .ensures in
-    and-then (sheet (a .out .now) (a .at)) _ _ (f1 .field .ensures) (and-then _ _ _ (f2 .field2 .ensures) (rw (f3 .before .open-of .ensures) at e3))
+    and-then (sheet (a .out .now) (a .at)) _ _ (f1 .field .ensures) (and-then _ _ _ (f2 .field2 .ensures) (rw (f3 .before .one-if .ensures) at e3))
 
 pub counts-text-spec : {M : Type 1} → statement M
 counts-text-spec =
@@ -47,7 +47,7 @@ counts-text-spec =
     slice-aggregate-field-2
     field-requires-2
     slice-aggregate-field-3
-    open-of-requires
+    one-if-requires
     field-requires-3
     same-length
     returns)
