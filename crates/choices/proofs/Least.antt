@@ -14,36 +14,22 @@ use lib.Seq.{getD-set-other}
 use Rattle.laws.proofs.Tests.{true-not-false, by-test}
 use Rattle.records.specs.declared.Record.{Record}
 use Rattle.jobs.specs.Opening.{noRecord}
-use Rattle.jobs.specs.Rank.{keyOf}
-use Rattle.jobs.proofs.Ranks.{Before}
+use Rattle.jobs.specs.Rank.{keyOf, Before}
 use Rattle.choices.specs.declared.Best.{Best}
 use Rattle.choices.specs.Choice.{wins, better, bestTo}
+use Rattle.choices.specs.Least.{Chosen, NoneOpen, Found, some, nothing}
 
 module _ (l : List Record) where
   abbrev at : ℕ → Record
   at i = getD l i noRecord
 
-  -- of the first n positions, the job at p is open and before every other open one
-  pub record Chosen (n p : ℕ) : Type 0 where
-    pub below : p < n
-    pub live : at p .live ≡ true
-    pub least : (i : ℕ) → i < n → at i .live ≡ true → (i ≡ p → ⊥) → Before (at p) p (at i) i
-
-  -- of the first n positions, none has an open job
-  abbrev pub NoneOpen : ℕ → Type 0
-  NoneOpen n = (i : ℕ) → i < n → at i .live ≡ false
-
-  pub data Found (n : ℕ) : Best → Type 0 where
-    some : {p : ℕ} → Chosen n p → Found n (record { found = true; key = keyOf (at p); at = p })
-    nothing : {k p : ℕ} → NoneOpen n → Found n (record { found = false; key = k; at = p })
-
   one-more : (n i : ℕ) → i < suc n → (i ≡ n → ⊥) → i < n
   one-more n i h q = omega arith
 
-  step : (n : ℕ) (b : Best) → Found n b → Found (suc n) (better b (at n) n)
+  step : (n : ℕ) (b : Best) → Found l n b → Found l (suc n) (better b (at n) n)
   step n b (some {p} f) = go (at n .live) (ltb (keyOf (at n)) (keyOf (at p))) refl refl
     where
-      new : at n .live ≡ true → keyOf (at n) < keyOf (at p) → Chosen (suc n) n
+      new : at n .live ≡ true → keyOf (at n) < keyOf (at p) → Chosen l (suc n) n
       new v k =
           record {
             below = omega arith;
@@ -59,7 +45,7 @@ module _ (l : List Record) where
               after (inl x) = omega arith
               after (inr x) = omega (arith, x .0)
 
-      old : (at n .live ≡ true → keyOf (at p) ≤ keyOf (at n)) → Chosen (suc n) p
+      old : (at n .live ≡ true → keyOf (at p) ≤ keyOf (at n)) → Chosen l (suc n) p
       old k =
           record {
             below = omega (arith, f .below);
@@ -79,13 +65,13 @@ module _ (l : List Record) where
           later i h o q (no e) = f .least i (one-more n i h e) o q
 
       go : (v w : Bool) → at n .live ≡ v → ltb (keyOf (at n)) (keyOf (at p)) ≡ w
-          → Found (suc n) (cond (cond v (cond true w true) false) (record { found = true; key = keyOf (at n); at = n }) (record { found = true; key = keyOf (at p); at = p }))
+          → Found l (suc n) (cond (cond v (cond true w true) false) (record { found = true; key = keyOf (at n); at = n }) (record { found = true; key = keyOf (at p); at = p }))
       go true true ev ew = some (new ev (ltb-true _ _ ew))
       go true false ev ew = some (old (λ o. ltb-false _ _ ew))
       go false w ev ew = some (old (λ o. absurd (true-not-false (sym o ∙ ev))))
   step n b (nothing {k} {p} f) = go (at n .live) refl
     where
-      none-yet : at n .live ≡ false → NoneOpen (suc n)
+      none-yet : at n .live ≡ false → NoneOpen l (suc n)
       none-yet e i h = side (ℕ-discrete i n)
         where
           side : Dec (i ≡ n) → at i .live ≡ false
@@ -93,11 +79,11 @@ module _ (l : List Record) where
           side (no q) = f i (one-more n i h q)
 
       go : (v : Bool) → at n .live ≡ v
-          → Found (suc n) (cond (cond v (cond false (ltb (keyOf (at n)) k) true) false) (record { found = true; key = keyOf (at n); at = n }) (record { found = false; key = k; at = p }))
+          → Found l (suc n) (cond (cond v (cond false (ltb (keyOf (at n)) k) true) false) (record { found = true; key = keyOf (at n); at = n }) (record { found = false; key = k; at = p }))
       go true e = some {p = n} (record { below = omega arith; live = e; least = λ i h o q. absurd (true-not-false (sym o ∙ f i (one-more n i h q))) })
       go false e = nothing (none-yet e)
 
-  pub best-is : (n : ℕ) → Found n (bestTo l n)
+  pub best-is : (n : ℕ) → Found l n (bestTo l n)
   unfolding bestTo
   best-is zero = nothing (λ i h. absurd (not-suc-le-zero h))
   best-is (suc n) = step n (bestTo l n) (best-is n)
@@ -106,7 +92,7 @@ module _ (l : List Record) where
   pub found-below : (n : ℕ) → bestTo l n .found ≡ true → bestTo l n .at < n
   found-below n e = go (bestTo l n) (best-is n) e
     where
-      go : (b : Best) → Found n b → b .found ≡ true → b .at < n
+      go : (b : Best) → Found l n b → b .found ≡ true → b .at < n
       go b (some f) q = f .below
       go b (nothing f) q = absurd (true-not-false (sym q))
 

@@ -19,21 +19,21 @@ use Rattle.states.specs.Choice.{chosen}
 use Rattle.states.proofs.Sounding.{state-tells}
 use Rattle.effects.specs.declared.Answer.{Answer}
 use Rattle.effects.specs.declared.Applied.{Applied}
-use Rattle.effects.specs.Answers.{numberOf}
+use Rattle.effects.specs.Answers.{refusalOf}
 use Rattle.task_steps.specs.Steps.{tooSoon, reopened, isOpen}
 use Rattle.effects.specs.Steps.{expiredAll}
 use Rattle.effects.specs.Apply.{answerOf, moved, refused, ticked, releasedAt, completedAt, byKind, timed, acted, applied}
 use Rattle.effects.specs.Verdict.{afterOne, Heard, Verdict, unsound, unruled, untimely, no-task, too-soon, no-job, ticks, releases, completes}
 
 -- an accepted event's answer is no refusal
-accepts : (s : State) → numberOf (answerOf s) ≡ 0
-accepts s = by-test (λ (a : Answer). numberOf a ≡ 0) (chosen s .found) _ _ (λ f. refl) (λ f. refl)
+accepts : (s : State) → refusalOf (answerOf s) ≡ 0
+accepts s = by-test (λ (a : Answer). refusalOf a ≡ 0) (chosen s .found) _ _ (λ f. refl) (λ f. refl)
 
 module _ (s : State) (e : Event) where
   Given : Applied → Type 0
-  Given a = Verdict s e (numberOf (a .answer))
+  Given a = Verdict s e (refusalOf (a .answer))
 
-  by-kind : Heard s e → Verdict s e (numberOf (byKind s e .answer))
+  by-kind : Heard s e → Verdict s e (refusalOf (byKind s e .answer))
   unfolding byKind ticked releasedAt completedAt Given
   by-kind h =
       by-test Given (eqb (e .kind) 0) _ _ (λ q. rw accepts (ticks h (eqb-true _ _ q)))
@@ -52,7 +52,7 @@ module _ (s : State) (e : Event) where
       (λ f. rw accepts (completes h k (eqb-false (e .kind) 1 r) (leb-false _ _ c) f))
       (λ f. no-job h k (eqb-false (e .kind) 1 r) (leb-false _ _ c) f))))
 
-  pub verdict-is : Verdict s e (numberOf (applied s e .answer))
+  pub verdict-is : Verdict s e (refusalOf (applied s e .answer))
   unfolding applied acted timed Given
   verdict-is =
       by-test Given (stateHolds s) _ _
@@ -79,19 +79,19 @@ module _ (s : State) (e : Event) where
         le-ltb (e .time) (s .clock) (h .onward),
       )
 
-  only : (n : ℕ) → Verdict s e n → n ≡ numberOf (applied s e .answer)
+  only : (n : ℕ) → Verdict s e n → n ≡ refusalOf (applied s e .answer)
   unfolding applied acted timed byKind ticked releasedAt completedAt
   only n (unsound q) = rw (tells-false (state-tells s) q)
   only n (unruled p q) = rw (tells-true (state-tells s) p, ne-eqb (faultOf e) 0 q)
   only n (untimely p z (inl q)) = rw (tells-true (state-tells s) p, eq-eqb _ _ z, lt-ltb limit (e .time) q)
   only n (untimely p z (inr q)) = rw (tells-true (state-tells s) p, eq-eqb _ _ z) (late (ltb limit (e .time)))
     where
-      late : (b : Bool) → 9 ≡ numberOf (cond b (refused s 9) (cond (ltb (e .time) (s .clock)) (refused s 9) (byKind s e)) .answer)
+      late : (b : Bool) → 9 ≡ refusalOf (cond b (refused s 9) (cond (ltb (e .time) (s .clock)) (refused s 9) (byKind s e)) .answer)
       late true = refl
       late false = rw (lt-ltb (e .time) (s .clock) q)
   only n (no-task h k c) = rw (heard h, ne-eqb (e .kind) 0 k, le-leb _ _ c) (either (eqb (e .kind) 1))
     where
-      either : (b : Bool) → 10 ≡ numberOf (cond b (refused s 10) (refused s 10) .answer)
+      either : (b : Bool) → 10 ≡ refusalOf (cond b (refused s 10) (refused s 10) .answer)
       either true = refl
       either false = refl
   only n (too-soon h k c f) = rw (heard h, ne-eqb (e .kind) 0 (λ z. omega arith), eq-eqb (e .kind) 1 k, lt-leb _ _ c, f)
@@ -105,5 +105,5 @@ module _ (s : State) (e : Event) where
       (sym (accepts (moved s (e .time) (set (expiredAll s (e .time)) (e .task) (closed (afterOne s e) true)))))
 
   -- a number is given exactly when its row holds
-  pub verdict-exactly : (n : ℕ) → (numberOf (applied s e .answer) ≡ n) ↔ Verdict s e n
+  pub verdict-exactly : (n : ℕ) → (refusalOf (applied s e .answer) ≡ n) ↔ Verdict s e n
   verdict-exactly = exactly (Verdict s e) verdict-is only

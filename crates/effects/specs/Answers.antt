@@ -4,7 +4,7 @@ use Rattle.effects.specs.declared.Answer.{Answer}
 use Rattle.effects.specs.declared.Answer.the-variants.{Run, Idle, Refused}
 
 -- the refusal's number, 0 where the event is accepted
-abbrev pub numberOf : Answer → ℕ
-numberOf (Run p c) = 0
-numberOf Idle = 0
-numberOf (Refused n) = n
+abbrev pub refusalOf : Answer → ℕ
+refusalOf (Run p c) = 0
+refusalOf Idle = 0
+refusalOf (Refused n) = n

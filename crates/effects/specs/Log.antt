@@ -17,6 +17,11 @@ unfoldable pub ranOver : Applied → List Event → Applied
 ranOver a [] = a
 ranOver a (e ∷ es) = ranOver (applied (a .state) e) es
 
+-- the state after some events, in the order of the log
+unfoldable pub stateAfter : State → List Event → State
+stateAfter s [] = s
+stateAfter s (e ∷ es) = stateAfter (applied s e .state) es
+
 -- a state that is not sound goes no further
 unfoldable pub ran : State → List ℕ → Applied
 ran s log = cond (stateHolds s) (ranOver (standing s) (eventsOf log)) (refused s 15)

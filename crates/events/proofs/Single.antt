@@ -1,6 +1,6 @@
--- Each promise admits a single answer: no two rules hold of one argument, and a contract is an equation with a computed value.
+-- Each rule admits a single answer: no two rules hold of one argument. Of a contract that is an equation `laws` Tests `single` says it.
 use Prim.Native.Nat.{ℕ}
-use mathlib.Core.Path.{_≡_, sym, _∙_}
+use mathlib.Core.Path.{_≡_}
 use mathlib.Core.List.{List}
 use Rattle.laws.proofs.Answers.{one-answer}
 use Rattle.events.specs.declared.Event.{Event}
@@ -15,7 +15,3 @@ judge-single e = one-answer (Judged e) (judged-is e) (λ n j. judged-only j)
 
 pub read-single : (s : List ℕ) {a b : Reading} → Reads s a → Reads s b → a ≡ b
 read-single s = one-answer (Reads s) (reads-is s) (λ r h. reads-only h)
-
--- two values that meet a contract `r ≡ x` are the same: so for the rest, the count and the record at a place
-pub contract-single : {A : Type 0} {x a b : A} → a ≡ x → b ≡ x → a ≡ b
-contract-single p q = p ∙ sym q

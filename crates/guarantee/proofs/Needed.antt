@@ -33,8 +33,8 @@ use Rattle.bounds.specs.declared.Bound.the-variants as Bound
 use Rattle.all_bounds.specs.Asked.{allAnswer}
 use Rattle.bounds.specs.Asked.{oneAnswer}
 use Rattle.effects.specs.Apply.{ticked, releasedAt, completedAt, byKind, timed, acted, applied}
-use Rattle.histories.specs.History.{Job, stateAfter, recordAfter, jobsOf}
-use Rattle.guarantee.specs.ChosenTime.{standing, chosenTime}
+use Rattle.histories.specs.History.{Job, runState, runRecord, jobsOf}
+use Rattle.guarantee.specs.ChosenTime.{standsAt, chosenTime}
 use Rattle.guarantee.specs.Premise.{Premise}
 use Rattle.guarantee.specs.Guarantee.{Promise}
 use Rattle.guarantee.proofs.Trying.{shortTo, obeysAt, Obeys, obeys-by, premise-by}
@@ -61,19 +61,19 @@ unfolding allAnswer judged firstFault taskFault firstFit demand total
 alone-accepted = refl
 
 late-obeys : Obeys OnlyReleases (freshState alone) late
-unfolding obeysAt shortTo chosenTime standing stateAfter total filled applied acted timed byKind ticked releasedAt completedAt stateHolds eachHolds soundHolds taskFault closed expired opened bestTo zeroes faultOf ones onesIn
+unfolding obeysAt shortTo chosenTime standsAt runState total filled applied acted timed byKind ticked releasedAt completedAt stateHolds eachHolds soundHolds taskFault closed expired opened bestTo zeroes faultOf ones onesIn
 late-obeys = obeys-by OnlyReleases (λ e. cond (eqb (e .kind) 1) (e .time) 0) (λ e x h k. rw (eq-eqb _ _ k) at h) (freshState alone) late refl
 
 late-jobs : jobsOf (freshState alone) late 0 ≡ jobOf 1 0 0 2 false ∷ []
-unfolding jobsOf stateAfter filled applied acted timed byKind ticked releasedAt completedAt stateHolds eachHolds soundHolds taskFault closed expired opened bestTo zeroes faultOf ones onesIn
+unfolding jobsOf runState filled applied acted timed byKind ticked releasedAt completedAt stateHolds eachHolds soundHolds taskFault closed expired opened bestTo zeroes faultOf ones onesIn
 late-jobs = refl
 
 pub without-after : (allAnswer alone 16 ≡ Answer.Accepted) × Obeys OnlyReleases (freshState alone) late × (Promise alone (freshState alone) late 0 → ⊥)
 without-after = (alone-accepted, late-obeys, not-kept alone (freshState alone) late 0 (jobOf 1 0 0 2 false) [] late-jobs refl refl)
 
 -- the tick itself closes the job: a premise on the jobs that are open after an event, and not as it arrives, would let this run through
-pub open-as-it-arrives : recordAfter (freshState alone) late 0 .live ≡ false
-unfolding stateAfter filled applied acted timed byKind ticked releasedAt completedAt stateHolds eachHolds soundHolds taskFault closed expired opened bestTo zeroes faultOf ones onesIn
+pub open-as-it-arrives : runRecord (freshState alone) late 0 .live ≡ false
+unfolding runState filled applied acted timed byKind ticked releasedAt completedAt stateHolds eachHolds soundHolds taskFault closed expired opened bestTo zeroes faultOf ones onesIn
 open-as-it-arrives = refl
 
 -- ---- releases at x: one hard task of C, D and T 2, whose job has had its ticks at 2, and its next release at 2
@@ -92,11 +92,11 @@ unfolding allAnswer judged firstFault taskFault firstFit demand total
 tight-accepted = refl
 
 again-obeys : Obeys OnlyAfter (freshState tight) again
-unfolding obeysAt shortTo chosenTime standing stateAfter total filled applied acted timed byKind ticked releasedAt completedAt stateHolds eachHolds soundHolds taskFault closed expired opened bestTo zeroes faultOf ones onesIn
+unfolding obeysAt shortTo chosenTime standsAt runState total filled applied acted timed byKind ticked releasedAt completedAt stateHolds eachHolds soundHolds taskFault closed expired opened bestTo zeroes faultOf ones onesIn
 again-obeys = obeys-by OnlyAfter (λ e. e .time - 1) (λ e x h. omega arith) (freshState tight) again refl
 
 again-jobs : jobsOf (freshState tight) again 0 ≡ jobOf 1 0 0 2 false ∷ []
-unfolding jobsOf stateAfter filled applied acted timed byKind ticked releasedAt completedAt stateHolds eachHolds soundHolds taskFault closed expired opened bestTo zeroes faultOf ones onesIn
+unfolding jobsOf runState filled applied acted timed byKind ticked releasedAt completedAt stateHolds eachHolds soundHolds taskFault closed expired opened bestTo zeroes faultOf ones onesIn
 again-jobs = refl
 
 pub without-releases : (allAnswer tight 16 ≡ Answer.Accepted) × Obeys OnlyAfter (freshState tight) again × (Promise tight (freshState tight) again 0 → ⊥)
@@ -115,11 +115,11 @@ unfolding allAnswer oneAnswer judged firstFault taskFault firstFit demand total
 crowded-bounds = (refl, refl)
 
 starved-obeys : Premise (freshState crowded) starved
-unfolding obeysAt shortTo chosenTime standing stateAfter total filled applied acted timed byKind ticked releasedAt completedAt stateHolds eachHolds soundHolds taskFault closed expired opened bestTo zeroes faultOf ones onesIn
+unfolding obeysAt shortTo chosenTime standsAt runState total filled applied acted timed byKind ticked releasedAt completedAt stateHolds eachHolds soundHolds taskFault closed expired opened bestTo zeroes faultOf ones onesIn
 starved-obeys = premise-by (freshState crowded) starved refl
 
 starved-jobs : jobsOf (freshState crowded) starved 2 ≡ jobOf 1 0 0 3 false ∷ []
-unfolding jobsOf stateAfter filled applied acted timed byKind ticked releasedAt completedAt stateHolds eachHolds soundHolds taskFault closed expired opened bestTo zeroes faultOf ones onesIn
+unfolding jobsOf runState filled applied acted timed byKind ticked releasedAt completedAt stateHolds eachHolds soundHolds taskFault closed expired opened bestTo zeroes faultOf ones onesIn
 starved-jobs = refl
 
 pub without-bounds : (oneAnswer crowded 2 ≡ Bound.At 3) × Premise (freshState crowded) starved × (Promise crowded (freshState crowded) starved 2 → ⊥)
@@ -162,11 +162,11 @@ unfolding stateHolds eachHolds soundHolds taskFault
 stale-sound = refl
 
 second-obeys : Premise stale second
-unfolding obeysAt shortTo chosenTime standing stateAfter total filled applied acted timed byKind ticked releasedAt completedAt stateHolds eachHolds soundHolds taskFault closed expired opened bestTo zeroes faultOf ones onesIn
+unfolding obeysAt shortTo chosenTime standsAt runState total filled applied acted timed byKind ticked releasedAt completedAt stateHolds eachHolds soundHolds taskFault closed expired opened bestTo zeroes faultOf ones onesIn
 second-obeys = premise-by stale second refl
 
-second-window : windowOf (recordAfter stale second 0) ≡ 2
-unfolding stateAfter filled applied acted timed byKind ticked releasedAt completedAt stateHolds eachHolds soundHolds taskFault closed expired opened bestTo zeroes faultOf ones onesIn
+second-window : windowOf (runRecord stale second 0) ≡ 2
+unfolding runState filled applied acted timed byKind ticked releasedAt completedAt stateHolds eachHolds soundHolds taskFault closed expired opened bestTo zeroes faultOf ones onesIn
 second-window = refl
 
 pub without-fresh : (allAnswer pair 16 ≡ Answer.Accepted) × (stateHolds stale ≡ true) × Premise stale second × (Promise pair stale second 0 → ⊥)

@@ -24,8 +24,9 @@ use Rattle.states.specs.declared.State.{State}
 use Rattle.choices.specs.declared.Best.{Best}
 use Rattle.states.specs.State.{recordAt, freshState}
 use Rattle.states.specs.Choice.{chosen}
-use Rattle.jobs.proofs.Ranks.{Before}
-use Rattle.choices.proofs.Least.{Chosen, Found, some, nothing, best-is}
+use Rattle.jobs.specs.Rank.{Before}
+use Rattle.choices.specs.Least.{Chosen, Found, some, nothing}
+use Rattle.choices.proofs.Least.{best-is}
 use Rattle.states.proofs.Starting.{fresh-at}
 use Rattle.demands.specs.Above.{taskAt, isAbove}
 use Rattle.demands.proofs.Order.{above-tells}
@@ -34,7 +35,7 @@ use Rattle.effects.specs.declared.Applied.{Applied}
 use Rattle.task_steps.specs.Steps.{tooSoon, reopened}
 use Rattle.effects.specs.Steps.{expiredAll}
 use Rattle.effects.specs.Apply.{accepted, applied}
-use Rattle.histories.specs.History.{stateAfter, recordAfter, accepts, isAccepted, jobsOf}
+use Rattle.histories.specs.History.{runState, runRecord, accepts, isAccepted, jobsOf}
 use Rattle.guarantee.specs.ChosenTime.{isChoice, openTime}
 use Rattle.guarantee.specs.Premise.{Timely, Premise}
 use Rattle.histories.proofs.Steps.{Same, expired-same, is-open}
@@ -54,23 +55,23 @@ deadline r = r .last + r .task .d
 
 -- what the open job of task i still wants
 abbrev leftAfter : State → List Event → ℕ → ℕ
-leftAfter s es i = recordAfter s es i .task .c - openTime s es i (stateAfter s es .clock)
+leftAfter s es i = runRecord s es i .task .c - openTime s es i (runState s es .clock)
 
 -- and what it wants at the time of the next event
 abbrev laterAt : State → List Event → Event → ℕ → ℕ
-laterAt s es e i = recordAfter s es i .task .c - openTime s es i (e .time)
+laterAt s es e i = runRecord s es i .task .c - openTime s es i (e .time)
 
 -- the moment after a run
 abbrev momentAt : State → List Event → ℕ → Moment
-momentAt s es clock = record { clock = clock; rec = recordAfter s es; left = leftAfter s es; jobs = jobsOf s es }
+momentAt s es clock = record { clock = clock; rec = runRecord s es; left = leftAfter s es; jobs = jobsOf s es }
 
 -- the state after one more event, and before the first
-next-state : (s : State) (es : List Event) (e : Event) → stateAfter s (e ∷ es) ≡ applied (stateAfter s es) e .state
-unfolding stateAfter
+next-state : (s : State) (es : List Event) (e : Event) → runState s (e ∷ es) ≡ applied (runState s es) e .state
+unfolding runState
 next-state s es e = refl
 
-fresh-clock : (t : Table) → stateAfter (freshState t) [] .clock ≡ 0
-unfolding stateAfter
+fresh-clock : (t : Table) → runState (freshState t) [] .clock ≡ 0
+unfolding runState
 fresh-clock t = refl
 
 module _ (t : Table) (good : judged t ≡ Accepted) (bound space : ℕ → ℕ) (gate : ℕ → Record → ℕ) (quota : ℕ → ℕ → ℕ)
@@ -82,7 +83,7 @@ module _ (t : Table) (good : judged t ≡ Accepted) (bound space : ℕ → ℕ) 
   Holds m = Steady (t .count) (taskAt t) (isAbove t) bound space gate quota m
 
   steady-fresh : Holds (momentAt from [] 0)
-  unfolding jobsOf stateAfter
+  unfolding jobsOf runState
   steady-fresh =
       record {
         fine = λ i h. rw (fresh-at t good i h) (fresh-fine (taskAt t i) (bound i) (judged-accepted t .0 good .1 i h));
@@ -94,22 +95,22 @@ module _ (t : Table) (good : judged t ≡ Accepted) (bound space : ℕ → ℕ) 
 
   module _ (es : List Event) (e : Event) where
     abbrev s : State
-    s = stateAfter from es
+    s = runState from es
 
     abbrev next : State
-    next = stateAfter from (e ∷ es)
+    next = runState from (e ∷ es)
 
     -- each task's record before and after the event
     abbrev old : ℕ → Record
-    old i = recordAfter from es i
+    old i = runRecord from es i
 
     abbrev new : ℕ → Record
-    new i = recordAfter from (e ∷ es) i
+    new i = runRecord from (e ∷ es) i
 
     abbrev m : Moment
     m = momentAt from es (s .clock)
 
-    r : Reached t (stateAfter from es)
+    r : Reached t (runState from es)
     r = reached t good es
 
     room : s .count ≤ length (s .records)
@@ -285,7 +286,7 @@ module _ (t : Table) (good : judged t ≡ Accepted) (bound space : ℕ → ℕ) 
             (closed (passed s e (e .task)) true) c (next-state from es e ∙ ap (λ (y : Applied). y .state) q)
             (x .within) k (is-open (passed s e (e .task)) (e .job) o .0) refl
 
-  pub steady : (es : List Event) → Premise from es → Holds (momentAt from es (stateAfter from es .clock))
+  pub steady : (es : List Event) → Premise from es → Holds (momentAt from es (runState from es .clock))
   unfolding Premise
   steady [] p = subst (λ (c : ℕ). Holds (momentAt from [] c)) (sym (fresh-clock t)) steady-fresh
   steady (e ∷ es) p = steady-next es e (steady es (p .0)) (p .1)

@@ -13,14 +13,14 @@ use Rattle.laws.specs.Tests.{whenever}
 use Rattle.laws.proofs.Tests.{both-hold, whenever-holds}
 use Rattle.events.specs.declared.Event.{Event}
 use Rattle.states.specs.declared.State.{State}
-use Rattle.histories.specs.History.{recordAfter, isAccepted}
+use Rattle.histories.specs.History.{runRecord, isAccepted}
 use Rattle.guarantee.specs.ChosenTime.{openTime}
 use Rattle.guarantee.specs.Premise.{Waits, Timely, Premise}
 use Rattle.guarantee.proofs.Ticks.{time-rises}
 
 -- the open job of task i is short of C at tick y
 abbrev pub shortHolds : State → List Event → ℕ → ℕ → Bool
-shortHolds s es i y = whenever (recordAfter s es i .live) (ltb (openTime s es i y) (recordAfter s es i .task .c))
+shortHolds s es i y = whenever (runRecord s es i .live) (ltb (openTime s es i y) (runRecord s es i .task .c))
 
 -- of the first n tasks
 unfoldable pub shortTo : State → List Event → ℕ → ℕ → Bool
@@ -37,12 +37,12 @@ unfoldable pub Obeys : (Event → ℕ → Type 0) → State → List Event → T
 Obeys Owes s [] = Unit
 Obeys Owes s (e ∷ es) =
     Obeys Owes s es
-    × (isAccepted s es e ≡ true → (i x : ℕ) → i < s .count → recordAfter s es i .live ≡ true → recordAfter s es i .task .c ≤ openTime s es i x → Owes e x)
+    × (isAccepted s es e ≡ true → (i x : ℕ) → i < s .count → runRecord s es i .live ≡ true → runRecord s es i .task .c ≤ openTime s es i x → Owes e x)
 
 module _ (s : State) (es : List Event) where
   -- an open job's chosen time never falls
   open-rises : (i x y : ℕ) → x ≤ y → openTime s es i x ≤ openTime s es i y
-  open-rises i x y h = time-rises s i (recordAfter s es i .released) (recordAfter s es i .last + recordAfter s es i .task .d) es x y h
+  open-rises i x y h = time-rises s i (runRecord s es i .released) (runRecord s es i .last + runRecord s es i .task .d) es x y h
 
   short-each : (y n : ℕ) → shortTo s es y n ≡ true → (i : ℕ) → i < n → shortHolds s es i y ≡ true
   unfolding shortTo
@@ -54,15 +54,15 @@ module _ (s : State) (es : List Event) where
       go (no z) k = k (omega arith)
 
   -- what has had its time at x was short before x
-  short-before : (i x y : ℕ) → i < s .count → recordAfter s es i .live ≡ true → recordAfter s es i .task .c ≤ openTime s es i x
+  short-before : (i x y : ℕ) → i < s .count → runRecord s es i .live ≡ true → runRecord s es i .task .c ≤ openTime s es i x
       → shortTo s es y (s .count) ≡ true → y < x
   short-before i x y p l c q = go (decLt y x)
     where
       go : Dec (y < x) → y < x
       go (yes h) = h
       go (no h) =
-          let b = whenever-holds (recordAfter s es i .live) (ltb (openTime s es i y) (recordAfter s es i .task .c)) (short-each y (s .count) q i p) l in
-          absurd (omega (arith, open-rises i x y (omega arith), ltb-true (openTime s es i y) (recordAfter s es i .task .c) b))
+          let b = whenever-holds (runRecord s es i .live) (ltb (openTime s es i y) (runRecord s es i .task .c)) (short-each y (s .count) q i p) l in
+          absurd (omega (arith, open-rises i x y (omega arith), ltb-true (openTime s es i y) (runRecord s es i .task .c) b))
 
 -- a run that passes the test obeys the premise that the test's tick gives
 pub obeys-by : (Owes : Event → ℕ → Type 0) (f : Event → ℕ) → ((e : Event) (x : ℕ) → f e < x → Owes e x)
@@ -96,18 +96,18 @@ premise-by s es h = premise-of s es (obeys-by Waits shortAt waits-by s es h)
 
 -- the tick at which the chosen time of task i's open job reaches C
 pub record Reaches (s : State) (es : List Event) (i x : ℕ) : Type 0 where
-  pub full : recordAfter s es i .task .c ≤ openTime s es i x
-  pub first : (y : ℕ) → y < x → openTime s es i y < recordAfter s es i .task .c
+  pub full : runRecord s es i .task .c ≤ openTime s es i x
+  pub first : (y : ℕ) → y < x → openTime s es i y < runRecord s es i .task .c
 
 -- what is owed at that tick is owed at every later one: the premise asks for no more
 pub once-reached : (s : State) (es : List Event) (e : Event)
-    → ((i x : ℕ) → i < s .count → recordAfter s es i .live ≡ true → Reaches s es i x → Waits e x) → Timely s es e
+    → ((i x : ℕ) → i < s .count → runRecord s es i .live ≡ true → Reaches s es i x → Waits e x) → Timely s es e
 once-reached s es e w i x p l c = at x c
   where
-    at : (x : ℕ) → recordAfter s es i .task .c ≤ openTime s es i x → Waits e x
+    at : (x : ℕ) → runRecord s es i .task .c ≤ openTime s es i x → Waits e x
     at zero c = w i 0 p l (record { full = c; first = λ y h. absurd (not-suc-le-zero h) })
-    at (suc x) c = go (decLe (recordAfter s es i .task .c) (openTime s es i x)) (at x)
+    at (suc x) c = go (decLe (runRecord s es i .task .c) (openTime s es i x)) (at x)
       where
-        go : Dec (recordAfter s es i .task .c ≤ openTime s es i x) → (recordAfter s es i .task .c ≤ openTime s es i x → Waits e x) → Waits e (suc x)
+        go : Dec (runRecord s es i .task .c ≤ openTime s es i x) → (runRecord s es i .task .c ≤ openTime s es i x → Waits e x) → Waits e (suc x)
         go (yes h) k = let v = k h in record { not-after = omega (arith, v .not-after); no-release = λ z. omega (arith, v .no-release z) }
         go (no h) k = w i (suc x) p l (record { full = c; first = λ y q. omega (arith, open-rises s es i y x (omega arith)) })

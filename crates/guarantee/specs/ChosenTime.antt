@@ -9,12 +9,12 @@ use Rattle.events.specs.declared.Event.{Event}
 use Rattle.states.specs.declared.State.{State}
 use Rattle.states.specs.State.{recordAt}
 use Rattle.states.specs.Choice.{chosen}
-use Rattle.histories.specs.History.{stateAfter, recordAfter}
+use Rattle.histories.specs.History.{runState, runRecord}
 
 -- the state that stands at tick y: the last one whose clock is not after y, of a run that starts at clock 0
-unfoldable pub standing : State → List Event → ℕ → State
-standing s [] y = s
-standing s (e ∷ es) y = cond (leb (stateAfter s (e ∷ es) .clock) y) (stateAfter s (e ∷ es)) (standing s es y)
+unfoldable pub standsAt : State → List Event → ℕ → State
+standsAt s [] y = s
+standsAt s (e ∷ es) y = cond (leb (runState s (e ∷ es) .clock) y) (runState s (e ∷ es)) (standsAt s es y)
 
 -- job j of task i is the choice
 abbrev pub isChoice : State → ℕ → ℕ → Bool
@@ -22,9 +22,9 @@ isChoice s i j = cond (chosen s .found) (cond (eqb (chosen s .at) i) (eqb (recor
 
 -- the ticks before x and before the deadline d at which job j of task i is the choice
 unfoldable pub chosenTime : State → List Event → ℕ → ℕ → ℕ → ℕ → ℕ
-chosenTime s es i j d x = total (λ y. oneIf (isChoice (standing s es y) i j)) (min x d)
+chosenTime s es i j d x = total (λ y. oneIf (isChoice (standsAt s es y) i j)) (min x d)
 
 -- of task i's open job after the run, up to tick x
 abbrev pub openTime : State → List Event → ℕ → ℕ → ℕ
 openTime s es i x =
-    chosenTime s es i (recordAfter s es i .released) (recordAfter s es i .last + recordAfter s es i .task .d) x
+    chosenTime s es i (runRecord s es i .released) (runRecord s es i .last + runRecord s es i .task .d) x

@@ -11,7 +11,7 @@ use Rattle.states.specs.declared.State.{State}
 use Rattle.states.specs.State.{freshState}
 use Rattle.demands.specs.Above.{taskAt}
 use Rattle.all_bounds.specs.Asked.{allAnswer, boundCell}
-use Rattle.histories.specs.History.{Job, recordAfter, jobsOf, outcomesOf}
+use Rattle.histories.specs.History.{Job, runRecord, jobsOf, outcomesOf}
 use Rattle.guarantee.specs.Premise.{Premise}
 
 -- a closed job that opened in class 0 was met, at most the bound after its release
@@ -25,7 +25,7 @@ Each P (j ∷ jobs) = P j × Each P jobs
 -- of task i: its closed jobs, and any K of them in a row, its window number and `broken`
 pub record Promise (t : Table) (s : State) (es : List Event) (i : ℕ) : Type 0 where
   pub required : Each (Good (boundCell t i)) (jobsOf s es i)
-  pub windows : Kept (taskAt t i) (outcomesOf (jobsOf s es i)) (recordAfter s es i)
+  pub windows : Kept (taskAt t i) (outcomesOf (jobsOf s es i)) (runRecord s es i)
 
 -- for every table whose analysis, with room for so many numbers, gives all bounds, and every run from its
 -- fresh state that obeys the premise: of every task

@@ -6,7 +6,7 @@ use mathlib.Core.Bool.{true}
 use mathlib.Core.List.{List, [], _∷_}
 use Rattle.events.specs.declared.Event.{Event}
 use Rattle.states.specs.declared.State.{State}
-use Rattle.histories.specs.History.{recordAfter, isAccepted}
+use Rattle.histories.specs.History.{runRecord, isAccepted}
 use Rattle.guarantee.specs.ChosenTime.{openTime}
 
 -- what an accepted event owes to an open job whose chosen time has reached C at x
@@ -16,7 +16,7 @@ pub record Waits (e : Event) (x : ℕ) : Type 0 where
 
 abbrev pub Timely : State → List Event → Event → Type 0
 Timely s es e =
-    (i x : ℕ) → i < s .count → recordAfter s es i .live ≡ true → recordAfter s es i .task .c ≤ openTime s es i x → Waits e x
+    (i x : ℕ) → i < s .count → runRecord s es i .live ≡ true → runRecord s es i .task .c ≤ openTime s es i x → Waits e x
 
 -- every accepted event of a run is timely
 unfoldable pub Premise : State → List Event → Type 0

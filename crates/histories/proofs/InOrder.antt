@@ -3,19 +3,15 @@ use mathlib.Core.Path.{_≡_, refl}
 use mathlib.Core.List.{List, [], _∷_}
 use Rattle.events.specs.declared.Event.{Event}
 use Rattle.states.specs.declared.State.{State}
-use Rattle.effects.specs.Apply.{applied}
-use Rattle.histories.specs.History.{stateAfter}
-
-abbrev pub inOrder : State → List Event → State
-inOrder s [] = s
-inOrder s (e ∷ es) = inOrder (applied s e .state) es
+use Rattle.effects.specs.Log.{stateAfter}
+use Rattle.histories.specs.History.{runState}
 
 -- events told oldest first, put in front of those before them
 abbrev pub onto : List Event → List Event → List Event
 onto [] past = past
 onto (e ∷ es) past = onto es (e ∷ past)
 
-pub told-in-order : (s : State) (es past : List Event) → inOrder (stateAfter s past) es ≡ stateAfter s (onto es past)
-unfolding stateAfter
+pub told-in-order : (s : State) (es past : List Event) → stateAfter (runState s past) es ≡ runState s (onto es past)
+unfolding runState stateAfter
 told-in-order s [] past = refl
 told-in-order s (e ∷ es) past = told-in-order s es (e ∷ past)

@@ -7,6 +7,7 @@ use mathlib.Core.List.{List, [], _∷_}
 use native.Mathlib.Omega.{arith}
 use lib.Dec.{eqb}
 use lib.ListN.{length}
+use Rattle.laws.specs.Numbers.{oneIf}
 use Rattle.laws.proofs.Tests.{true-not-false, both-hold}
 use Rattle.events.specs.declared.Event.{Event}
 use Rattle.levels.specs.Level.{classOf}
@@ -27,7 +28,7 @@ use Rattle.states.specs.State.{recordAt, freshState}
 use Rattle.states.specs.Sound.{StateSound}
 use Rattle.states.proofs.Starting.{fresh-at}
 use Rattle.windows.specs.Outcomes.{mets, misses, lastMisses, firstOver}
-use Rattle.windows.specs.History.{History, start, release, close, openOf}
+use Rattle.windows.specs.History.{History, start, release, close}
 use Rattle.windows.specs.Rungs.{Rung, rungAfter}
 use Rattle.windows.proofs.Counts.{counts}
 use Rattle.windows.proofs.Marks.{window-is}
@@ -36,7 +37,7 @@ use Rattle.windows.proofs.Rungs.{class-is, rung-is}
 use Rattle.demands.specs.Above.{taskAt}
 use Rattle.task_steps.specs.Steps.{reopened}
 use Rattle.effects.specs.Apply.{applied}
-use Rattle.histories.specs.History.{Job, stateAfter, recordAfter, closes, closedJob, jobsOf, outcomesOf}
+use Rattle.histories.specs.History.{Job, runState, runRecord, closes, closedJob, jobsOf, outcomesOf}
 use Rattle.histories.proofs.Steps.{closed-same, closed-idle, cleared, cleared-open, cleared-none, cleared-same, Expired, over, stays, expiry, expired-same, expired-open}
 use Rattle.histories.proofs.Closes.{jobsWith, closes-none, closes-stays, closes-idle, closes-next}
 use Rattle.histories.proofs.Taken.{passed, Becomes, same, passes, reopens, finishes, becomes}
@@ -126,7 +127,7 @@ module _ (s : State) (e : Event) (g : StateSound s) (room : s .count ≤ length 
 pub record Tallied (task : Task) (jobs : List Job) (r : Record) : Type 0 where
   pub met : r .met ≡ mets (outcomesOf jobs)
   pub missed : r .missed ≡ misses (outcomesOf jobs)
-  pub released : r .released ≡ length (outcomesOf jobs) + openOf (r .live)
+  pub released : r .released ≡ length (outcomesOf jobs) + oneIf (r .live)
   pub window : windowOf r ≡ lastMisses (task .k) (outcomesOf jobs)
   pub broken : r .broken ≡ firstOver (task .m) (task .k) (outcomesOf jobs)
 
@@ -148,14 +149,14 @@ module _ (t : Table) (good : judged t ≡ Accepted) where
   from = freshState t
 
   -- the closed jobs of a task, with its record, are a history of that task
-  pub history : (es : List Event) (i : ℕ) → i < t .count → History (taskAt t i) (outcomesOf (jobsOf from es i)) (recordAfter from es i)
-  unfolding stateAfter jobsOf
+  pub history : (es : List Event) (i : ℕ) → i < t .count → History (taskAt t i) (outcomesOf (jobsOf from es i)) (runRecord from es i)
+  unfolding runState jobsOf
   history [] i h = rw (fresh-at t good i h) start
   history (e ∷ es) i h =
       let r = reached t good es in
-      next-history (stateAfter from es) e (r .sound) (room-for t good (stateAfter from es) r) i (rw (r .count) h) (taskAt t i) (jobsOf from es i) (history es i h)
+      next-history (runState from es) e (r .sound) (room-for t good (runState from es) r) i (rw (r .count) h) (taskAt t i) (jobsOf from es i) (history es i h)
 
-  pub tallied : (es : List Event) (i : ℕ) → i < t .count → Tallied (taskAt t i) (jobsOf from es i) (recordAfter from es i)
+  pub tallied : (es : List Event) (i : ℕ) → i < t .count → Tallied (taskAt t i) (jobsOf from es i) (runRecord from es i)
   tallied es i h =
       let k = history es i h in
       let c = counts k in
@@ -163,34 +164,34 @@ module _ (t : Table) (good : judged t ≡ Accepted) where
       record { met = c .met; missed = c .missed; released = c .released; window = window-is rules k; broken = broken-is rules k }
 
   -- the class, number and release of a closed job are those that it opened with
-  pub untouched : (es : List Event) (e : Event) (i : ℕ) → i < t .count → recordAfter from es i .live ≡ true
-      → closes (recordAfter from es i) (recordAfter from (e ∷ es) i) ≡ false → recordAfter from (e ∷ es) i ≡ recordAfter from es i
-  unfolding stateAfter
+  pub untouched : (es : List Event) (e : Event) (i : ℕ) → i < t .count → runRecord from es i .live ≡ true
+      → closes (runRecord from es i) (runRecord from (e ∷ es) i) ≡ false → runRecord from (e ∷ es) i ≡ runRecord from es i
+  unfolding runState
   untouched es e i h l n =
       let r = reached t good es in
-      stays-open (stateAfter from es) e (r .sound) (room-for t good (stateAfter from es) r) i (rw (r .count) h) l n
+      stays-open (runState from es) e (r .sound) (room-for t good (runState from es) r) i (rw (r .count) h) l n
 
   pub numbered : (es : List Event) (i : ℕ) → i < t .count → Numbered (jobsOf from es i)
   unfolding jobsOf
   numbered [] i h = tt
-  numbered (e ∷ es) i h = go (closes (recordAfter from es i) (recordAfter from (e ∷ es) i)) refl (numbered es i h)
+  numbered (e ∷ es) i h = go (closes (runRecord from es i) (runRecord from (e ∷ es) i)) refl (numbered es i h)
     where
-      go : (b : Bool) → closes (recordAfter from es i) (recordAfter from (e ∷ es) i) ≡ b → Numbered (jobsOf from es i)
-          → Numbered (cond b (closedJob (recordAfter from es i) e i ∷ jobsOf from es i) (jobsOf from es i))
+      go : (b : Bool) → closes (runRecord from es i) (runRecord from (e ∷ es) i) ≡ b → Numbered (jobsOf from es i)
+          → Numbered (cond b (closedJob (runRecord from es i) e i ∷ jobsOf from es i) (jobsOf from es i))
       go true q k =
-          let l = closing-open (recordAfter from es i) (recordAfter from (e ∷ es) i) q in
+          let l = closing-open (runRecord from es i) (runRecord from (e ∷ es) i) q in
           (omega (arith, rw l at (tallied es i h .released)), k)
       go false q k = k
 
   pub classed : (es : List Event) (i : ℕ) → i < t .count → Classed (taskAt t i) (jobsOf from es i)
   unfolding jobsOf
   classed [] i h = tt
-  classed (e ∷ es) i h = go (closes (recordAfter from es i) (recordAfter from (e ∷ es) i)) refl (classed es i h)
+  classed (e ∷ es) i h = go (closes (runRecord from es i) (runRecord from (e ∷ es) i)) refl (classed es i h)
     where
-      go : (b : Bool) → closes (recordAfter from es i) (recordAfter from (e ∷ es) i) ≡ b → Classed (taskAt t i) (jobsOf from es i)
-          → Classed (taskAt t i) (cond b (closedJob (recordAfter from es i) e i ∷ jobsOf from es i) (jobsOf from es i))
+      go : (b : Bool) → closes (runRecord from es i) (runRecord from (e ∷ es) i) ≡ b → Classed (taskAt t i) (jobsOf from es i)
+          → Classed (taskAt t i) (cond b (closedJob (runRecord from es i) e i ∷ jobsOf from es i) (jobsOf from es i))
       go true q k =
-          let l = closing-open (recordAfter from es i) (recordAfter from (e ∷ es) i) q in
+          let l = closing-open (runRecord from es i) (runRecord from (e ∷ es) i) q in
           let run = history es i h in
           (class-is run l ∙ ap (λ (x : Rung). classOf (x .level)) (rung-is run), k)
       go false q k = k

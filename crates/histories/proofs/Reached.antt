@@ -21,7 +21,7 @@ use Rattle.effects.specs.Apply.{acted, applied}
 use Rattle.effects.proofs.Frame.{count-stays, past-stays, row-stays}
 use Rattle.effects.proofs.Kept.{applied-sound}
 use Rattle.effects.proofs.Places.{expired-length}
-use Rattle.histories.specs.History.{stateAfter}
+use Rattle.histories.specs.History.{runState}
 use Rattle.histories.proofs.Taken.{Took, refusal, tick, release, completion, acts, took}
 
 -- what an event keeps, refused or not
@@ -79,12 +79,12 @@ module _ (t : Table) (good : judged t ≡ Accepted) where
         past = λ i h. filled-past (λ (j : ℕ). fresh (taskAt t j)) (replicate 16 noRecord) noRecord (t .count) i h;
       }
 
-  pub reached : (es : List Event) → Reached t (stateAfter (freshState t) es)
-  unfolding stateAfter
+  pub reached : (es : List Event) → Reached t (runState (freshState t) es)
+  unfolding runState
   reached [] = fresh-reached
   reached (e ∷ es) =
       let r = reached es in
-      let k = event-keeps (stateAfter (freshState t) es) e (r .sound) in
+      let k = event-keeps (runState (freshState t) es) e (r .sound) in
       record {
         sound = k .sound;
         count = k .count ∙ r .count;
@@ -94,5 +94,5 @@ module _ (t : Table) (good : judged t ≡ Accepted) where
       }
 
   -- along a run no event is refused 15
-  pub acted-on : (es : List Event) (e : Event) → applied (stateAfter (freshState t) es) e ≡ acted (stateAfter (freshState t) es) e
-  acted-on es e = acts (stateAfter (freshState t) es) e (reached es .sound)
+  pub acted-on : (es : List Event) (e : Event) → applied (runState (freshState t) es) e ≡ acted (runState (freshState t) es) e
+  acted-on es e = acts (runState (freshState t) es) e (reached es .sound)

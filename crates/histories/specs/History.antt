@@ -12,13 +12,13 @@ use Rattle.effects.specs.declared.Answer.the-variants.{Run, Idle, Refused}
 use Rattle.effects.specs.Apply.{applied}
 
 -- the state that a run leaves; a refused event leaves the one before it
-unfoldable pub stateAfter : State → List Event → State
-stateAfter s [] = s
-stateAfter s (e ∷ es) = applied (stateAfter s es) e .state
+unfoldable pub runState : State → List Event → State
+runState s [] = s
+runState s (e ∷ es) = applied (runState s es) e .state
 
 -- task i's record in it
-abbrev pub recordAfter : State → List Event → ℕ → Record
-recordAfter s es i = recordAt (stateAfter s es) i
+abbrev pub runRecord : State → List Event → ℕ → Record
+runRecord s es i = recordAt (runState s es) i
 
 abbrev pub accepts : Answer → Bool
 accepts (Run p c) = true
@@ -27,7 +27,7 @@ accepts (Refused n) = false
 
 -- the next event of a run is accepted
 abbrev pub isAccepted : State → List Event → Event → Bool
-isAccepted s es e = accepts (applied (stateAfter s es) e .answer)
+isAccepted s es e = accepts (applied (runState s es) e .answer)
 
 -- a closed job: its number, its release, the class that it opened with, when it closed, and met or missed
 pub record Job : Type 0 where
@@ -53,7 +53,7 @@ closedJob r e i =
 unfoldable pub jobsOf : State → List Event → ℕ → List Job
 jobsOf s [] i = []
 jobsOf s (e ∷ es) i =
-    cond (closes (recordAfter s es i) (recordAfter s (e ∷ es) i)) (closedJob (recordAfter s es i) e i ∷ jobsOf s es i) (jobsOf s es i)
+    cond (closes (runRecord s es i) (runRecord s (e ∷ es) i)) (closedJob (runRecord s es i) e i ∷ jobsOf s es i) (jobsOf s es i)
 
 -- their outcomes, true for a met job
 abbrev pub outcomesOf : List Job → List Bool

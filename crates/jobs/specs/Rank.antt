@@ -6,9 +6,13 @@ use Rattle.tables.specs.Order.{Higher}
 use Rattle.records.specs.declared.Record.{Record}
 
 -- the job of r, at position i, is above that of q, at position j
-abbrev pub Above : Record → ℕ → Record → ℕ → Type 0
-Above r i q j = (r .class < q .class) ⊎ ((r .class ≡ q .class) × Higher (r .task) i (q .task) j)
+abbrev pub JobAbove : Record → ℕ → Record → ℕ → Type 0
+JobAbove r i q j = (r .class < q .class) ⊎ ((r .class ≡ q .class) × Higher (r .task) i (q .task) j)
 
 -- class and D as one number: the smaller is above, and equal ones go by position
 abbrev pub keyOf : Record → ℕ
 keyOf r = r .class * 4294967296 + r .task .d
+
+-- smaller key, or equal keys and smaller position
+abbrev pub Before : Record → ℕ → Record → ℕ → Type 0
+Before r i q j = (keyOf r < keyOf q) ⊎ ((keyOf r ≡ keyOf q) × (i < j))

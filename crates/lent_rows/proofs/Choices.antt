@@ -15,7 +15,8 @@ use Rattle.choices.specs.declared.Best.{Best}
 use Rattle.states.specs.declared.State.{State}
 use Rattle.choices.specs.Choice.{bestTo}
 use Rattle.states.specs.Choice.{chosen}
-use Rattle.choices.proofs.Least.{Found, some, nothing, best-is}
+use Rattle.choices.specs.Least.{Found, some, nothing}
+use Rattle.choices.proofs.Least.{best-is}
 use Rattle.lent_rows.specs.Row.{rowOf, LeastIn}
 
 -- of a row of any length: the open job above every other one, or none, exactly if nothing is open

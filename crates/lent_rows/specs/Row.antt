@@ -8,7 +8,7 @@ use lib.ListN.{length, take, getD}
 use Rattle.tables.specs.Rules.{countHolds}
 use Rattle.records.specs.declared.Record.{Record}
 use Rattle.jobs.specs.Opening.{noRecord}
-use Rattle.jobs.specs.Rank.{Above}
+use Rattle.jobs.specs.Rank.{JobAbove}
 use Rattle.states.specs.declared.State.{State}
 use Rattle.states.specs.Sound.{limit}
 
@@ -26,4 +26,4 @@ admitted count clock = cond (countHolds count) (leb clock limit) false
 pub record LeastIn (l : List Record) (p : ℕ) : Type 0 where
   pub below : p < length l
   pub live : getD l p noRecord .live ≡ true
-  pub least : (i : ℕ) → i < length l → getD l i noRecord .live ≡ true → (i ≡ p → ⊥) → Above (getD l p noRecord) p (getD l i noRecord) i
+  pub least : (i : ℕ) → i < length l → getD l i noRecord .live ≡ true → (i ≡ p → ⊥) → JobAbove (getD l p noRecord) p (getD l i noRecord) i

@@ -45,7 +45,8 @@ use Rattle.listing_text.specs.TaskLines.{boundText, taskLine, lastLine}
 use Rattle.listing_text.specs.TableLines.{taskLines, lastLines}
 use Rattle.listing_text.specs.EventLines.{answerText, eventLine}
 use Rattle.listing_text.specs.RefusalLines.{refusedLine}
-use Rattle.listing_text.specs.LogLines.{eventLines, stateAfter, stopBy, stopText}
+use Rattle.effects.specs.Log.{stateAfter}
+use Rattle.listing_text.specs.LogLines.{eventLines, stopBy, stopText}
 use Rattle.listing_text.specs.Listing.{tableListing, listedBy, listed, tableThere, tableBytes, eventBytes, listingOf}
 use Rattle.listing_text.proofs.Input.{read-good}
 use Rattle.listing_text.proofs.Small.{refusal-small, w-digits, h-digits, task-ruled, bound-small, Small, applied-small, stop-small, met-small, missed-small, broken-small, open-small, window-small, fresh-state-sound}

@@ -16,7 +16,7 @@ use Rattle.tables.specs.declared.Table.{Table}
 use Rattle.tables.specs.Rules.{noTask}
 use Rattle.tables.specs.Judging.{judged}
 use Rattle.tables.proofs.Exactly.{judged-accepted}
-use Rattle.table_bytes.specs.Reading.{taskAt, recordAt, tableOf, beside, readAnswer, readTable}
+use Rattle.table_bytes.specs.Reading.{taskFrom, recordAt, tableOf, beside, readAnswer, readTable}
 use Rattle.table_bytes.proofs.Exactly.{length-at, read-accepted}
 use Rattle.task_bytes.proofs.Exactly.{record-task}
 use Rattle.listing_text.specs.Listing.{countByte, tableThere, eventsFrom, tableBytes, eventBytes}
@@ -35,7 +35,7 @@ read-good s e =
     (judged-accepted (tableOf s n) .1 (
       r .0 .counted,
       λ i h.
-          let t = filled-below (taskAt s) (replicate 16 noTask) noTask n i (r .0 .counted .most) h in
+          let t = filled-below (taskFrom s) (replicate 16 noTask) noTask n i (r .0 .counted .most) h in
           rw t (record-task (recordAt s i) (length-at s i h) 0 (λ z. omega (arith, z)) .0 (r .1 i h) .1),
     ))
 

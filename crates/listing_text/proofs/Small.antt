@@ -50,7 +50,8 @@ use Rattle.states.specs.declared.State.{State}
 use Rattle.choices.specs.Choice.{bestTo}
 use Rattle.states.specs.Sound.{limit, StateSound, stateHolds}
 use Rattle.states.specs.State.{freshState}
-use Rattle.choices.proofs.Least as Least
+use Rattle.choices.specs.Least as Least
+use Rattle.choices.proofs.Least.{best-is}
 use Rattle.effects.specs.declared.Answer.the-variants as Said
 use Rattle.states.specs.State.{recordAt as recordOf}
 use Rattle.effects.specs.declared.Answer.{Answer as Said}
@@ -125,7 +126,7 @@ class-small r clock s l =
 
 module _ (s : State) (sound : StateSound s) where
   answer-small : Small (answerOf s)
-  answer-small = go (bestTo (s .records) (min (s .count) 16)) (Least.best-is (s .records) (min (s .count) 16))
+  answer-small = go (bestTo (s .records) (min (s .count) 16)) (best-is (s .records) (min (s .count) 16))
     where
       go : (b : Best) → Least.Found (s .records) (min (s .count) 16) b → Small (cond (b .found) (Said.Run (b .at) (recordOf s (b .at) .class)) Said.Idle)
       go b (Least.some {p} f) =

@@ -22,12 +22,12 @@ use Rattle.logs.proofs.Rests.{rest-end}
 use Rattle.states.specs.declared.State.{State}
 use Rattle.effects.specs.declared.Applied.{Applied}
 use Rattle.effects.specs.Apply.{applied}
-use Rattle.effects.specs.Log.{standing, ranOver}
+use Rattle.effects.specs.Log.{standing, ranOver, stateAfter}
 use Rattle.wording.specs.Fields.{fieldOf}
 use Rattle.wording.specs.Words.{boundWord, noBoundWord}
 use Rattle.listing_text.specs.TaskLines.{boundText}
 use Rattle.listing_text.specs.RefusalLines.{tooLong, refusedLine, stopLine}
-use Rattle.listing_text.specs.LogLines.{stateAfter, stopText}
+use Rattle.listing_text.specs.LogLines.{stopText}
 use Rattle.listing_text.specs.Listing.{tableThere, tableBytes, eventBytes, tableListing, listed, listingOf}
 
 -- ---- bound or `-`

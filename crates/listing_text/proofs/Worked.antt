@@ -24,7 +24,8 @@ use Rattle.states.specs.Sound.{eachHolds, stateHolds}
 use Rattle.choices.specs.Choice.{bestTo}
 use Rattle.effects.specs.Apply.{ticked, releasedAt, completedAt, byKind, timed, acted, applied}
 use Rattle.listing_text.specs.TableLines.{taskLines, lastLines}
-use Rattle.listing_text.specs.LogLines.{eventLines, stateAfter, stopText}
+use Rattle.effects.specs.Log.{stateAfter}
+use Rattle.listing_text.specs.LogLines.{eventLines, stopText}
 use Rattle.listing_text.specs.Listing.{tableListing, listed, listingOf}
 
 -- one byte n: 2 tasks

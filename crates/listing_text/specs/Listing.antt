@@ -13,7 +13,8 @@ use Rattle.table_bytes.specs.Reading.{readTable}
 use Rattle.logs.specs.Log.{eventsOf}
 use Rattle.states.specs.State.{freshState}
 use Rattle.listing_text.specs.TableLines.{taskLines, lastLines}
-use Rattle.listing_text.specs.LogLines.{eventLines, stateAfter, stopText}
+use Rattle.effects.specs.Log.{stateAfter}
+use Rattle.listing_text.specs.LogLines.{eventLines, stopText}
 use Rattle.listing_text.specs.RefusalLines.{tooLong, refusedLine}
 
 -- the listing of a table that is accepted, and of its events

@@ -16,11 +16,6 @@ unfoldable pub eventLines : ℕ → State → List Event → List ℕ
 eventLines i s [] = []
 eventLines i s (e ∷ es) = eventLine i (applied s e .answer) ++ eventLines (i + 1) (applied s e .state) es
 
--- the state after the events
-unfoldable pub stateAfter : State → List Event → State
-stateAfter s [] = s
-stateAfter s (e ∷ es) = stateAfter (applied s e .state) es
-
 -- `stop N at O` if a record does not read
 abbrev pub stopBy : Reading → ℕ → List ℕ
 stopBy (R.Event e) offset = []

@@ -15,7 +15,8 @@ use Rattle.logs.proofs.Going.{Going, going-none, going-more, going-stop}
 use Rattle.states.specs.declared.State.{State}
 use Rattle.effects.specs.Apply.{applied}
 use Rattle.listing_text.specs.EventLines.{eventLine}
-use Rattle.listing_text.specs.LogLines.{eventLines, stateAfter, stopBy}
+use Rattle.effects.specs.Log.{stateAfter}
+use Rattle.listing_text.specs.LogLines.{eventLines, stopBy}
 
 -- what is held between two events: the lines so far, the state, and how many events were read
 pub record Held : Type 0 where

@@ -7,7 +7,8 @@ use states::State;
 ghost use mathlib.Core.Path.{_≡_};
 ghost use Rattle.logs.specs.Log.{eventsOf};
 ghost use Rattle.texts.specs.Sheet.{sheet, puts};
-ghost use Rattle.listing_text.specs.LogLines.{eventLines, stateAfter, stopText};
+ghost use Rattle.effects.specs.Log.{stateAfter};
+ghost use Rattle.listing_text.specs.LogLines.{eventLines, stopText};
 
 // Where the lines of the events end, and the state after them.
 pub struct Ended {

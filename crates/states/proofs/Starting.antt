@@ -18,7 +18,8 @@ use Rattle.choices.specs.declared.Best.{Best}
 use Rattle.states.specs.State.{recordAt, freshState}
 use Rattle.states.specs.Sound.{StateSound}
 use Rattle.states.specs.Choice.{chosen}
-use Rattle.choices.proofs.Least.{Found, some, nothing, best-is}
+use Rattle.choices.specs.Least.{Found, some, nothing}
+use Rattle.choices.proofs.Least.{best-is}
 
 module _ (t : Table) (good : judged t ≡ Accepted) where
   pub fresh-at : (i : ℕ) → i < t .count → recordAt (freshState t) i ≡ fresh (getD (t .tasks) i noTask)

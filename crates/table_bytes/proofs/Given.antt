@@ -13,7 +13,7 @@ use Rattle.tables.specs.Judging.{judged}
 use Rattle.tables.specs.Tidy.{Tidy}
 use Rattle.tables.proofs.Exactly.{judged-accepted}
 use Rattle.task_bytes.specs.Reading.{Marked}
-use Rattle.table_bytes.specs.Reading.{Whole, recordAt, taskAt, tableOf, readAnswer, readTable}
+use Rattle.table_bytes.specs.Reading.{Whole, recordAt, taskFrom, tableOf, readAnswer, readTable}
 use Rattle.table_bytes.proofs.Exactly.{read-accepted, length-at}
 use Rattle.task_bytes.proofs.Exactly.{record-task}
 
@@ -35,10 +35,10 @@ module _ (s : List ℕ) (good : readAnswer s ≡ Accepted) where
   pub whole : Whole s
   whole = read-accepted s .0 good .0
 
-  pub task-there : (i : ℕ) → i < count s → getD (given s .tasks) i noTask ≡ taskAt s i
-  task-there i h = filled-below (taskAt s) (replicate 16 noTask) noTask (count s) i (whole .counted .most) h
+  pub task-there : (i : ℕ) → i < count s → getD (given s .tasks) i noTask ≡ taskFrom s i
+  task-there i h = filled-below (taskFrom s) (replicate 16 noTask) noTask (count s) i (whole .counted .most) h
 
-  pub fault-there : (i : ℕ) → i < count s → Marked (recordAt s i) × (taskFault (taskAt s i) ≡ 0)
+  pub fault-there : (i : ℕ) → i < count s → Marked (recordAt s i) × (taskFault (taskFrom s i) ≡ 0)
   fault-there i h = record-task (recordAt s i) (length-at s i h) 0 (λ z. omega (arith, z)) .0 (read-accepted s .0 good .1 i h)
 
   pub given-good : judged (given s) ≡ Accepted
@@ -57,7 +57,7 @@ module _ (s : List ℕ) (good : readAnswer s ≡ Accepted) where
   read-tidy =
       rw given-is
       (record {
-        places = length-filled (taskAt s) (replicate 16 noTask) noTask (count s);
-        zeros = λ i h. filled-past (taskAt s) (replicate 16 noTask) noTask (count s) i h ∙ zero-place i;
+        places = length-filled (taskFrom s) (replicate 16 noTask) noTask (count s);
+        zeros = λ i h. filled-past (taskFrom s) (replicate 16 noTask) noTask (count s) i h ∙ zero-place i;
       }
       )

@@ -22,8 +22,8 @@ recordAt s i = take 16 (drop (16 * i) s)
 abbrev pub recordFaultAt : List ℕ → ℕ → ℕ
 recordFaultAt s i = recordFault (recordAt s i)
 
-abbrev pub taskAt : List ℕ → ℕ → Task
-taskAt s i = taskOf (recordAt s i)
+abbrev pub taskFrom : List ℕ → ℕ → Task
+taskFrom s i = taskOf (recordAt s i)
 
 -- 16 times a count of 1 to 16
 pub record Whole (s : List ℕ) : Type 0 where
@@ -41,7 +41,7 @@ noTable = record { count = 0; tasks = replicate 16 noTask }
 
 -- the tasks of n records, and zeros past them
 abbrev pub tableOf : List ℕ → ℕ → Table
-tableOf s n = record { count = n; tasks = filled (taskAt s) n (replicate 16 noTask) }
+tableOf s n = record { count = n; tasks = filled (taskFrom s) n (replicate 16 noTask) }
 
 abbrev pub beside : Answer → Table → TableRead
 beside Accepted t = record { answer = Accepted; table = t }

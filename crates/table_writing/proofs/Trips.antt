@@ -23,7 +23,7 @@ use Rattle.tables.specs.declared.Table.{Table}
 use Rattle.tables.specs.Rules.{Times, taskFault, noTask}
 use Rattle.tables.specs.Judging.{judged}
 use Rattle.task_bytes.specs.Reading.{Marked, taskOf, recordFault}
-use Rattle.table_bytes.specs.Reading.{recordAt, taskAt, readAnswer, readTable}
+use Rattle.table_bytes.specs.Reading.{recordAt, taskFrom, readAnswer, readTable}
 use Rattle.tables.specs.Tidy.{Tidy}
 use Rattle.table_writing.specs.Writing.{recordOf, recordsOf, writeAnswer, wroteTable}
 use Rattle.tables.proofs.Exactly.{judged-accepted}
@@ -105,19 +105,19 @@ module _ (t : Table) (tidy : Tidy t) (good : judged t ≡ Accepted) where
         λ i h. let j : i < t .count = rw sixteenth at h in rw (each i j) (record-fault (getD (t .tasks) i noTask) (a .1 i j)),
       )
 
-  all-tasks : filled (taskAt all) (t .count) (replicate 16 noTask) ≡ t .tasks
+  all-tasks : filled (taskFrom all) (t .count) (replicate 16 noTask) ≡ t .tasks
   all-tasks =
-      let l : length (filled (taskAt all) (t .count) (replicate 16 noTask)) ≡ 16 = length-filled (taskAt all) (replicate 16 noTask) noTask (t .count) in
+      let l : length (filled (taskFrom all) (t .count) (replicate 16 noTask)) ≡ 16 = length-filled (taskFrom all) (replicate 16 noTask) noTask (t .count) in
       ext-getD noTask _ (t .tasks) (l ∙ sym (tidy .places)) (λ i h. go i (omega arith) (decLt i (t .count)))
     where
-      go : (i : ℕ) → i < 16 → Dec (i < t .count) → getD (filled (taskAt all) (t .count) (replicate 16 noTask)) i noTask ≡ getD (t .tasks) i noTask
+      go : (i : ℕ) → i < 16 → Dec (i < t .count) → getD (filled (taskFrom all) (t .count) (replicate 16 noTask)) i noTask ≡ getD (t .tasks) i noTask
       go i h (yes q) =
           let a = judged-accepted t .0 good in
-          filled-below (taskAt all) (replicate 16 noTask) noTask (t .count) i (a .0 .most) q
+          filled-below (taskFrom all) (replicate 16 noTask) noTask (t .count) i (a .0 .most) q
           ∙ ap taskOf (each i q)
           ∙ task-of-record (getD (t .tasks) i noTask) (fault-none (getD (t .tasks) i noTask) .0 (a .1 i q) .0)
       go i h (no q) =
-          filled-past (taskAt all) (replicate 16 noTask) noTask (t .count) i (omega arith)
+          filled-past (taskFrom all) (replicate 16 noTask) noTask (t .count) i (omega arith)
           ∙ getD-replicate 16 i noTask noTask h
           ∙ sym (tidy .zeros i (omega arith))
 

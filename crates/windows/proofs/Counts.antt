@@ -5,12 +5,13 @@ use mathlib.Core.Bool.{Bool, true, false}
 use mathlib.Core.List.{List, [], _∷_}
 use native.Mathlib.Omega.{arith}
 use lib.ListN.{length}
+use Rattle.laws.specs.Numbers.{oneIf}
 use Rattle.tables.specs.declared.Task.{Task}
 use Rattle.records.specs.declared.Record.{Record}
 use Rattle.records.specs.Closing.{closed}
 use Rattle.jobs.specs.Opening.{fresh, opened}
 use Rattle.windows.specs.Outcomes.{mets, misses}
-use Rattle.windows.specs.History.{History, start, release, close, openOf}
+use Rattle.windows.specs.History.{History, start, release, close}
 
 pub together : (os : List Bool) → mets os + misses os ≡ length os
 together [] = refl
@@ -21,7 +22,7 @@ pub record Counts (task : Task) (os : List Bool) (r : Record) : Type 0 where
   pub same : r .task ≡ task
   pub met : r .met ≡ mets os
   pub missed : r .missed ≡ misses os
-  pub released : r .released ≡ length os + openOf (r .live)
+  pub released : r .released ≡ length os + oneIf (r .live)
   pub fits : r .released ≤ 2 ^ 64 - 1
 
 closed-idle : (r : Record) (o : Bool) → closed r o .live ≡ false
@@ -47,7 +48,7 @@ module _ {task : Task} where
       record { same = c .same; met = c .met; missed = omega (arith, together os); released = omega arith; fits = c .fits }
 
   -- in any history, released = met + missed + open
-  pub released-is : {os : List Bool} {r : Record} → History task os r → r .released ≡ r .met + r .missed + openOf (r .live)
+  pub released-is : {os : List Bool} {r : Record} → History task os r → r .released ≡ r .met + r .missed + oneIf (r .live)
   released-is {os = os} h = let c = counts h in omega (arith, together os)
 
   -- any outcomes have a history, as far as 64 bits count

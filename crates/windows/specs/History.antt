@@ -15,10 +15,5 @@ pub data History (task : Task) : List Bool → Record → Type 0 where
   release : {os : List Bool} {r : Record} (t : ℕ) → r .live ≡ false → r .released < 2 ^ 64 - 1 → History task os r → History task os (opened r t)
   close : {os : List Bool} {r : Record} (met : Bool) → r .live ≡ true → History task os r → History task (met ∷ os) (closed r met)
 
--- the open jobs of a task
-abbrev pub openOf : Bool → ℕ
-openOf true = 1
-openOf false = 0
-
 abbrev pub rungOf : Record → Rung
 rungOf r = record { level = r .level; run = r .run }

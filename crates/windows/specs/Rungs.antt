@@ -32,8 +32,8 @@ unfoldable pub metRung : Task → Rung → Rung
 metRung task q = record { level = raised (q .level) (topFor task); run = 0 }
 
 -- missed in class 0 or with run + 1 >= w
-abbrev pub setsBack : Task → Rung → Bool
-setsBack task q = cond (eqb (classOf (q .level)) 0) true (leb (wFor task) (q .run + 1))
+abbrev pub fallsBack : Task → Rung → Bool
+fallsBack task q = cond (eqb (classOf (q .level)) 0) true (leb (wFor task) (q .run + 1))
 
 -- missed otherwise: run rises by one, level stays
 abbrev pub longer : Rung → Rung
@@ -41,7 +41,7 @@ longer q = record { level = q .level; run = q .run + 1 }
 
 -- a job missed: set back to level 1 - h and run 0, or a longer run
 unfoldable pub missedRung : Task → Rung → Rung
-missedRung task q = cond (setsBack task q) (lowRung task) (longer q)
+missedRung task q = cond (fallsBack task q) (lowRung task) (longer q)
 
 -- from fresh, job by job
 abbrev pub rungAfter : Task → List Bool → Rung

@@ -11,7 +11,7 @@ use Rattle.tables.specs.declared.Answer.the-variants.{Accepted}
 use Rattle.task_bytes.specs.declared.Row.{Row}
 use Rattle.tables.specs.Rules.{noTask}
 use Rattle.tables.specs.Judging.{firstFault}
-use Rattle.table_bytes.specs.Reading.{recordAt, recordFaultAt, taskAt}
+use Rattle.table_bytes.specs.Reading.{recordAt, recordFaultAt, taskFrom}
 use Rattle.task_bytes.specs.Reading.{readRow}
 use Rattle.tables.proofs.Faults.{none-more, found-at}
 use Rattle.task_bytes.proofs.Rows.{task-row, refused-row}
@@ -22,7 +22,7 @@ abbrev Inv-loop : tie.InvT-loop
 Inv-loop bytes count table₀ i₀ table i =
     (i ≤ count)
     × ((firstFault (recordFaultAt bytes) i ≡ Accepted)
-    × (table ≡ record { count = count; tasks = filled (taskAt bytes) i (replicate 16 noTask) })
+    × (table ≡ record { count = count; tasks = filled (taskFrom bytes) i (replicate 16 noTask) })
     )
 
 abbrev μ-loop : tie.MeasureT-loop

@@ -1,0 +1,25 @@
+-- Document 01, "Choice", as a sentence: of the first n positions of a row the open job before every other open one; or none.
+use Prim.Native.Nat.{ℕ, _<_}
+use mathlib.Core.Path.{_≡_}
+use mathlib.Core.Bool.{true, false}
+use mathlib.Core.List.{List}
+use lib.ListN.{getD}
+use Rattle.records.specs.declared.Record.{Record}
+use Rattle.jobs.specs.Opening.{noRecord}
+use Rattle.jobs.specs.Rank.{keyOf, Before}
+use Rattle.choices.specs.declared.Best.{Best}
+
+-- the job at p is open and before every other open one
+pub record Chosen (l : List Record) (n p : ℕ) : Type 0 where
+  pub below : p < n
+  pub live : getD l p noRecord .live ≡ true
+  pub least : (i : ℕ) → i < n → getD l i noRecord .live ≡ true → (i ≡ p → ⊥) → Before (getD l p noRecord) p (getD l i noRecord) i
+
+-- none has an open job
+abbrev pub NoneOpen : List Record → ℕ → Type 0
+NoneOpen l n = (i : ℕ) → i < n → getD l i noRecord .live ≡ false
+
+-- what the scan may have found
+pub data Found (l : List Record) (n : ℕ) : Best → Type 0 where
+  some : {p : ℕ} → Chosen l n p → Found l n (record { found = true; key = keyOf (getD l p noRecord); at = p })
+  nothing : {k p : ℕ} → NoneOpen l n → Found l n (record { found = false; key = k; at = p })
