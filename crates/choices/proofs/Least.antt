@@ -3,7 +3,7 @@ use Prim.Native.Nat.{ℕ, zero, suc, _≤_, _<_}
 use mathlib.Core.Path.{_≡_, refl, sym, _∙_}
 use mathlib.Core.Bool.{Bool, true, false, cond}
 use mathlib.Core.List.{List}
-use mathlib.Core.Logic.{inl, inr}
+use mathlib.Core.Logic.{inl, inr, _↔_}
 use native.Mathlib.Decide.{ℕ-discrete}
 use native.Mathlib.Nat.{not-suc-le-zero}
 use native.Mathlib.Omega.{arith}
@@ -14,10 +14,11 @@ use lib.Seq.{getD-set-other}
 use Rattle.laws.proofs.Tests.{true-not-false, by-test}
 use Rattle.records.specs.declared.Record.{Record}
 use Rattle.jobs.specs.Opening.{noRecord}
-use Rattle.jobs.specs.Rank.{keyOf, Before}
+use Rattle.jobs.specs.Rank.{JobAbove, keyOf, Before}
+use Rattle.jobs.proofs.Ranks.{above-once, key-tells}
 use Rattle.choices.specs.declared.Best.{Best}
 use Rattle.choices.specs.Choice.{wins, better, bestTo}
-use Rattle.choices.specs.Least.{Chosen, NoneOpen, Found, some, nothing}
+use Rattle.choices.specs.Least.{Least, Chosen, NoneOpen, Found, some, nothing}
 
 module _ (l : List Record) where
   abbrev at : ℕ → Record
@@ -87,6 +88,26 @@ module _ (l : List Record) where
   unfolding bestTo
   best-is zero = nothing (λ i h. absurd (not-suc-le-zero h))
   best-is (suc n) = step n (bestTo l n) (best-is n)
+
+  -- by keys or in document 01's words, D being a number of 32 bits as in every record
+  module _ (n : ℕ) (small : (i : ℕ) → i < n → at i .task .d < 4294967296) where
+    pub least-exactly : (p : ℕ) → Chosen l n p ↔ Least l n p
+    least-exactly p = (
+      λ f. record { below = f .below; live = f .live; least = λ i h o q. same i (f .below) h .0 (f .least i h o q) },
+      λ f. record { below = f .below; live = f .live; least = λ i h o q. same i (f .below) h .1 (f .least i h o q) },
+    )
+      where
+        same : (i : ℕ) → p < n → i < n → Before (at p) p (at i) i ↔ JobAbove (at p) p (at i) i
+        same i a b = key-tells (at p) p (at i) i (small p a) (small i b)
+
+    -- there is no more than one
+    pub least-one : (p q : ℕ) → Least l n p → Least l n q → p ≡ q
+    least-one p q f g = go (ℕ-discrete p q)
+      where
+        go : Dec (p ≡ q) → p ≡ q
+        go (yes e) = e
+        go (no e) =
+            absurd (above-once (at p) p (at q) q (f .least q (g .below) (g .live) (λ z. e (sym z))) (g .least p (f .below) (f .live) e))
 
   -- what was found stands at one of the positions
   pub found-below : (n : ℕ) → bestTo l n .found ≡ true → bestTo l n .at < n

@@ -1,4 +1,4 @@
--- Document 01, "Choice", as a sentence: of the first n positions of a row the open job before every other open one; or none.
+-- Document 01, "Choice", as a sentence over the first n positions of a row: the open job that is least by class, then by D, then by position; or none.
 use Prim.Native.Nat.{ℕ, _<_}
 use mathlib.Core.Path.{_≡_}
 use mathlib.Core.Bool.{true, false}
@@ -6,10 +6,16 @@ use mathlib.Core.List.{List}
 use lib.ListN.{getD}
 use Rattle.records.specs.declared.Record.{Record}
 use Rattle.jobs.specs.Opening.{noRecord}
-use Rattle.jobs.specs.Rank.{keyOf, Before}
+use Rattle.jobs.specs.Rank.{JobAbove, keyOf, Before}
 use Rattle.choices.specs.declared.Best.{Best}
 
--- the job at p is open and before every other open one
+-- the job at p is open, and above every other open one by class, then D, then position
+pub record Least (l : List Record) (n p : ℕ) : Type 0 where
+  pub below : p < n
+  pub live : getD l p noRecord .live ≡ true
+  pub least : (i : ℕ) → i < n → getD l i noRecord .live ≡ true → (i ≡ p → ⊥) → JobAbove (getD l p noRecord) p (getD l i noRecord) i
+
+-- the same by the keys that the scan compares: `least-exactly` shows it
 pub record Chosen (l : List Record) (n p : ℕ) : Type 0 where
   pub below : p < n
   pub live : getD l p noRecord .live ≡ true

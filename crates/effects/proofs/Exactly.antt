@@ -69,7 +69,7 @@ module _ (s : State) (e : Event) where
       (λ q. unsound (state-tells s .fails q))
 
   -- past the tests that are common to all kinds
-  heard : Heard s e → applied s e ≡ byKind s e
+  pub heard : Heard s e → applied s e ≡ byKind s e
   unfolding applied acted timed
   heard h =
       rw (

@@ -1,5 +1,7 @@
 -- What is shown of an event's effect.
 pub mod Exactly
+pub mod Left
+pub mod Chosen
 pub mod Frame
 pub mod Kept
 pub mod Places

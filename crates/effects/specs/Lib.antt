@@ -3,4 +3,6 @@ pub mod Steps
 pub mod Apply
 pub mod Answers
 pub mod Verdict
+pub mod Leaves
+pub mod Choice
 pub mod Log

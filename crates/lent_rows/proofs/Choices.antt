@@ -9,14 +9,13 @@ use lib.ListN.{length, getD, take, length-take}
 use lib.Seq.{getD-take}
 use Rattle.records.specs.declared.Record.{Record}
 use Rattle.jobs.specs.Opening.{noRecord}
-use Rattle.jobs.proofs.Ranks.{key-tells}
 use Rattle.laws.proofs.Tests.{true-not-false}
 use Rattle.choices.specs.declared.Best.{Best}
 use Rattle.states.specs.declared.State.{State}
 use Rattle.choices.specs.Choice.{bestTo}
 use Rattle.states.specs.Choice.{chosen}
 use Rattle.choices.specs.Least.{Found, some, nothing}
-use Rattle.choices.proofs.Least.{best-is}
+use Rattle.choices.proofs.Least.{best-is, least-exactly}
 use Rattle.lent_rows.specs.Row.{rowOf, LeastIn}
 
 -- of a row of any length: the open job above every other one, or none, exactly if nothing is open
@@ -28,12 +27,7 @@ pub row-chosen : (l : List Record) → ((i : ℕ) → i < length l → getD l i 
 row-chosen l small e = go (bestTo l (length l)) (row-least l) e
   where
     go : (b : Best) → Found l (length l) b → b .found ≡ true → LeastIn l (b .at)
-    go b (some {p} f) q =
-        record {
-          below = f .below;
-          live = f .live;
-          least = λ i h o n. key-tells (getD l p noRecord) p (getD l i noRecord) i (small p (f .below)) (small i h) .0 (f .least i h o n);
-        }
+    go b (some {p} f) q = least-exactly l (length l) small p .0 f
     go b (nothing f) q = absurd (true-not-false (sym q))
 
 pub row-idle : (l : List Record) → bestTo l (length l) .found ≡ false → (i : ℕ) → i < length l → getD l i noRecord .live ≡ false

@@ -1,14 +1,12 @@
 -- A lent row of records and a clock stand for a state that counts the row's records, and a state's tasks are a row.
-use Prim.Native.Nat.{ℕ, _<_}
-use mathlib.Core.Path.{_≡_}
-use mathlib.Core.Bool.{Bool, true, false, cond}
+use Prim.Native.Nat.{ℕ}
+use mathlib.Core.Bool.{Bool, false, cond}
 use mathlib.Core.List.{List}
 use lib.Dec.{leb}
-use lib.ListN.{length, take, getD}
+use lib.ListN.{length, take}
 use Rattle.tables.specs.Rules.{countHolds}
 use Rattle.records.specs.declared.Record.{Record}
-use Rattle.jobs.specs.Opening.{noRecord}
-use Rattle.jobs.specs.Rank.{JobAbove}
+use Rattle.choices.specs.Least.{Least}
 use Rattle.states.specs.declared.State.{State}
 use Rattle.states.specs.Sound.{limit}
 
@@ -22,8 +20,6 @@ rowOf s = take (s .count) (s .records)
 abbrev pub admitted : ℕ → ℕ → Bool
 admitted count clock = cond (countHolds count) (leb clock limit) false
 
--- document 01's choice over a row: the job at p is open, and above every other open job of the row
-pub record LeastIn (l : List Record) (p : ℕ) : Type 0 where
-  pub below : p < length l
-  pub live : getD l p noRecord .live ≡ true
-  pub least : (i : ℕ) → i < length l → getD l i noRecord .live ≡ true → (i ≡ p → ⊥) → JobAbove (getD l p noRecord) p (getD l i noRecord) i
+-- document 01's choice over a whole row
+abbrev pub LeastIn : List Record → ℕ → Type 0
+LeastIn l p = Least l (length l) p
