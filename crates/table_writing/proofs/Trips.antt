@@ -1,4 +1,4 @@
--- A table that is written and read back is the same table, and bytes that read, written again, are the same bytes:
+-- A table that is written and read back has its count and its first tasks, and is the same where the rest is zero; bytes that read, written again, are the same:
 -- record by record, from the round trips of a number.
 use Prim.Native.Nat.{ℕ, zero, suc, _+_, _*_, _/_, _≤_, _<_}
 use mathlib.Core.Path.{_≡_, refl, sym, ap, _∙_}
@@ -10,10 +10,9 @@ use borrow.Author.Tests.{le-leb}
 use lib.ListN.{length, getD, take, drop, replicate, getD-replicate, length-drop}
 use lib.Seq.{take-at, drop-at, take-all, take-add, length-take-le, ext-getD}
 use Rattle.laws.specs.Bytes.{AreBytes}
-use Rattle.laws.specs.Stores.{filled}
 use Rattle.laws.proofs.Bytes.{drop-bytes, take-bytes}
 use Rattle.laws.proofs.Parts.{two-at}
-use Rattle.laws.proofs.Stores.{length-filled, filled-below, filled-past}
+use Rattle.laws.proofs.Stores.{length-filled, filled-below, filled-past, filled-same}
 use Rattle.words.specs.Words.{number}
 use Rattle.word_writing.specs.Bytes.{bytes}
 use Rattle.word_writing.proofs.Trips.{number-of-bytes, bytes-of-number}
@@ -25,7 +24,7 @@ use Rattle.tables.specs.Judging.{judged}
 use Rattle.task_bytes.specs.Reading.{Marked, taskOf, recordFault}
 use Rattle.table_bytes.specs.Reading.{recordAt, taskFrom, readAnswer, readTable}
 use Rattle.tables.specs.Tidy.{Tidy}
-use Rattle.table_writing.specs.Writing.{recordOf, recordsOf, writeAnswer, wroteTable}
+use Rattle.table_writing.specs.Writing.{recordOf, recordsOf, writeAnswer, wroteTable, tidied}
 use Rattle.tables.proofs.Exactly.{judged-accepted}
 use Rattle.table_bytes.proofs.Exactly.{read-accepted, length-at}
 use Rattle.table_writing.proofs.Records.{length-record, length-records}
@@ -86,8 +85,8 @@ record-in ts (suc n) s i h = go (ℕ-discrete i n) (record-in ts n (recordOf (ge
         rw (q, append-assoc (recordsOf ts n) r s, drop-at (recordsOf ts n) (r ++ s) (16 * n) (length-records ts n)) (take-at r s 16 (length-record (getD ts n noTask)))
     go (no q) k = rw (append-assoc (recordsOf ts n) (recordOf (getD ts n noTask)) s) (k (omega arith))
 
--- a good table's records read, and give its tasks
-module _ (t : Table) (tidy : Tidy t) (good : judged t ≡ Accepted) where
+-- an accepted table's records read, and give its first tasks
+module _ (t : Table) (good : judged t ≡ Accepted) where
   abbrev all : List ℕ
   all = recordsOf (t .tasks) (t .count)
 
@@ -105,34 +104,49 @@ module _ (t : Table) (tidy : Tidy t) (good : judged t ≡ Accepted) where
         λ i h. let j : i < t .count = rw sixteenth at h in rw (each i j) (record-fault (getD (t .tasks) i noTask) (a .1 i j)),
       )
 
-  all-tasks : filled (taskFrom all) (t .count) (replicate 16 noTask) ≡ t .tasks
-  all-tasks =
-      let l : length (filled (taskFrom all) (t .count) (replicate 16 noTask)) ≡ 16 = length-filled (taskFrom all) (replicate 16 noTask) noTask (t .count) in
-      ext-getD noTask _ (t .tasks) (l ∙ sym (tidy .places)) (λ i h. go i (omega arith) (decLt i (t .count)))
-    where
-      go : (i : ℕ) → i < 16 → Dec (i < t .count) → getD (filled (taskFrom all) (t .count) (replicate 16 noTask)) i noTask ≡ getD (t .tasks) i noTask
-      go i h (yes q) =
-          let a = judged-accepted t .0 good in
-          filled-below (taskFrom all) (replicate 16 noTask) noTask (t .count) i (a .0 .most) q
-          ∙ ap taskOf (each i q)
-          ∙ task-of-record (getD (t .tasks) i noTask) (fault-none (getD (t .tasks) i noTask) .0 (a .1 i q) .0)
-      go i h (no q) =
-          filled-past (taskFrom all) (replicate 16 noTask) noTask (t .count) i (omega arith)
-          ∙ getD-replicate 16 i noTask noTask h
-          ∙ sym (tidy .zeros i (omega arith))
+  task-back : (i : ℕ) → i < t .count → taskFrom all i ≡ getD (t .tasks) i noTask
+  task-back i h =
+      let a = judged-accepted t .0 good in
+      ap taskOf (each i h) ∙ task-of-record (getD (t .tasks) i noTask) (fault-none (getD (t .tasks) i noTask) .0 (a .1 i h) .0)
 
-  pub records-read : readTable all ≡ record { answer = Accepted; table = t }
+  pub records-read : readTable all ≡ record { answer = Accepted; table = tidied t }
   unfolding readTable
-  records-read = rw (all-read, sixteenth, all-tasks)
+  records-read = rw (all-read, sixteenth, filled-same (taskFrom all) (λ (i : ℕ). getD (t .tasks) i noTask) (replicate 16 noTask) (t .count) task-back)
+
+-- what `tidied` leaves is the count and the first tasks, and all of a table whose other places are zero
+module _ (t : Table) (most : t .count ≤ 16) where
+  pub tidied-task : (i : ℕ) → i < t .count → getD (tidied t .tasks) i noTask ≡ getD (t .tasks) i noTask
+  tidied-task i h = filled-below (λ (j : ℕ). getD (t .tasks) j noTask) (replicate 16 noTask) noTask (t .count) i most h
+
+  tidied-past : (i : ℕ) → i < 16 → t .count ≤ i → getD (tidied t .tasks) i noTask ≡ noTask
+  tidied-past i l h = filled-past (λ (j : ℕ). getD (t .tasks) j noTask) (replicate 16 noTask) noTask (t .count) i h ∙ getD-replicate 16 i noTask noTask l
+
+  pub tidied-same : Tidy t → tidied t ≡ t
+  tidied-same tidy =
+      ap (λ (ts : List Task). record { count = t .count; tasks = ts })
+      (ext-getD noTask (tidied t .tasks) (t .tasks) (places ∙ sym (tidy .places)) (λ i h. go i (rw places at h) (decLt i (t .count))))
+    where
+      places : length (tidied t .tasks) ≡ 16
+      places = length-filled (λ (i : ℕ). getD (t .tasks) i noTask) (replicate 16 noTask) noTask (t .count)
+
+      go : (i : ℕ) → i < 16 → Dec (i < t .count) → getD (tidied t .tasks) i noTask ≡ getD (t .tasks) i noTask
+      go i h (yes q) = tidied-task i q
+      go i h (no q) = tidied-past i h (omega arith) ∙ sym (tidy .zeros i (omega arith))
 
 -- ---- the theorems
 
--- a table that is written and read back is the same table
-pub written-read : (t : Table) (s : List ℕ) → Tidy t → writeAnswer t (length s) ≡ Accepted
-    → readTable (take (16 * t .count) (wroteTable t s)) ≡ record { answer = Accepted; table = t }
-written-read t s tidy e =
-    rw (write-leaves t s e, take-at (recordsOf (t .tasks) (t .count)) (drop (16 * t .count) s) (16 * t .count) (length-records (t .tasks) (t .count)))
-    (records-read t tidy (write-accepted t (length s) .0 e .0))
+module _ (t : Table) (s : List ℕ) (e : writeAnswer t (length s) ≡ Accepted) where
+  -- every table that is written reads back with its count and its first tasks
+  pub written-tidied : readTable (take (16 * t .count) (wroteTable t s)) ≡ record { answer = Accepted; table = tidied t }
+  written-tidied =
+      rw (write-leaves t s e, take-at (recordsOf (t .tasks) (t .count)) (drop (16 * t .count) s) (16 * t .count) (length-records (t .tasks) (t .count)))
+      (records-read t (write-accepted t (length s) .0 e .0))
+
+  -- and is the same table where its other places are zero, as in every table that was read
+  pub written-read : Tidy t → readTable (take (16 * t .count) (wroteTable t s)) ≡ record { answer = Accepted; table = t }
+  written-read tidy =
+      let m = judged-accepted t .0 (write-accepted t (length s) .0 e .0) .0 .most in
+      written-tidied ∙ ap (λ (x : Table). record { answer = Accepted; table = x }) (tidied-same t m tidy)
 
 -- bytes that read are the records of the table they give
 module _ (s : List ℕ) (good : readAnswer s ≡ Accepted) where

@@ -3,7 +3,8 @@ use Prim.Native.Nat.{ℕ, zero, suc, _*_}
 use mathlib.Core.Bool.{cond}
 use mathlib.Core.List.{List, [], _∷_, _++_}
 use lib.Dec.{leb}
-use lib.ListN.{length, getD, drop}
+use lib.ListN.{length, getD, drop, replicate}
+use Rattle.laws.specs.Stores.{filled}
 use Rattle.word_writing.specs.Bytes.{bytes}
 use Rattle.tables.specs.declared.Task.{Task}
 use Rattle.tables.specs.declared.Table.{Table}
@@ -37,3 +38,7 @@ leftBy (Refused n p) t s = s
 
 unfoldable pub wroteTable : Table → List ℕ → List ℕ
 wroteTable t s = leftBy (writeAnswer t (length s)) t s
+
+-- what is written of a table, read back: its count and its first tasks, and zeros past them
+abbrev pub tidied : Table → Table
+tidied t = record { count = t .count; tasks = filled (λ i. getD (t .tasks) i noTask) (t .count) (replicate 16 noTask) }
