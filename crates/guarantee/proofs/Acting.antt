@@ -19,7 +19,7 @@ use Rattle.task_steps.specs.Steps.{tooSoon, reopened}
 use Rattle.effects.proofs.Kept.{spaced-by}
 use Rattle.histories.specs.History.{Job, closedJob}
 use Rattle.histories.proofs.Steps.{closed-idle, cleared, cleared-open, cleared-none, cleared-same, cleared-idle, Expired, over, stays, expiry, expired-same, expired-open}
-use Rattle.histories.proofs.Closes.{jobsWith, closes-none, closes-stays, closes-idle, closes-next, other-kind, other-task, completed}
+use Rattle.histories.proofs.Closes.{jobsWith, closes-none, closes-stays, closes-idle, closes-next, other-kind, other-task, own-task}
 use Rattle.guarantee.proofs.Busy.{keep, add}
 use Rattle.guarantee.proofs.Required.{isDue, due-intro, due-live, due-class, above-required, Fine, begun, fine-later, fine-missed, fine-met, fine-opened}
 use Rattle.guarantee.proofs.Levels.{upTo, Moment, costs, Level, viewOf, Steady, Given}
@@ -77,7 +77,7 @@ module _ (n : ℕ) (p : ℕ → Task) (above : ℕ → ℕ → Bool) (bound spac
         → Steady n p above bound space gate quota after
     on-tick k same lefts =
         record {
-          fine = λ i h. rw (same i h) (passed-fine i h (other-kind e i (λ z. omega arith)));
+          fine = λ i h. rw (same i h) (passed-fine i h (other-kind 2 e i (λ z. omega arith)));
           busy = λ k h. calm k h (λ i q u d. (same i q, lefts i q)) (λ i q. rw (same i q) (le-refl (gate i (passed i))));
         }
 
@@ -94,7 +94,7 @@ module _ (n : ℕ) (p : ℕ → Task) (above : ℕ → ℕ → Bool) (bound spac
         where
           go : Dec (i ≡ a) → Fine (p i) (bound i) t (jobsWith (m .rec i) (rec i) e i (m .jobs i)) (rec i)
           go (yes z) = rw z there
-          go (no z) = rw (elsewhere i h z) (passed-fine i h (other-task e i z))
+          go (no z) = rw (elsewhere i h z) (passed-fine i h (other-task 2 e i z))
 
       gate-by : gate a (passed a) ≤ gate a (rec a) → (i : ℕ) → i < n → gate i (passed i) ≤ gate i (rec i)
       gate-by there i h = go (ℕ-discrete i a)
@@ -125,7 +125,7 @@ module _ (n : ℕ) (p : ℕ → Task) (above : ℕ → ℕ → Bool) (bound spac
             fine =
                 fine-by
                 (rw (is, closes-idle r (closed r true) live (closed-idle r true))
-                (fine-met (p a) (bound a) (m .clock) (m .jobs a) r (inv .fine a c) live (omega arith) t onward (closedJob r e a) refl (completed e k)
+                (fine-met (p a) (bound a) (m .clock) (m .jobs a) r (inv .fine a c) live (omega arith) t onward (closedJob r e a) refl (own-task 2 e a k refl)
                 (λ z. safe n p above bound space gate quota g m inv t onward (e .kind ≡ 1) later picks less a c (due-intro r live z) .0)));
             busy =
                 λ k h.
@@ -179,7 +179,7 @@ module _ (n : ℕ) (p : ℕ → Task) (above : ℕ → ℕ → Bool) (bound spac
             gone over-it l =
                 rw (closes-next (m .rec a) (rec a) l (later-number l))
                 (fine-missed (p a) (bound a) (m .clock) (m .jobs a) (m .rec a) f l (omega arith) t onward (closedJob (m .rec a) e a) refl
-                (other-kind e a (λ z. omega arith)) over-it)
+                (other-kind 2 e a (λ z. omega arith)) over-it)
 
             stayed : (b : Bool) → m .rec a .live ≡ b → (m .rec a .live ≡ true → t ≤ m .rec a .last + m .rec a .task .d) → Ready (m .rec a)
             stayed true l d =

@@ -20,8 +20,8 @@ use Rattle.soundness.proofs.Kept.{end, fresh-sound, closed-sound, opened-sound,
 use Rattle.windows.specs.History.{rungOf}
 use Rattle.windows.specs.Bound.{Ledger}
 use Rattle.windows.proofs.Ledgers.{ledger-fresh, ledger-opened, ledger-met, ledger-missed}
-use Rattle.histories.specs.History.{Job, outcomesOf}
-use Rattle.guarantee.specs.Guarantee.{Good, Each}
+use Rattle.histories.specs.History.{Job, outcomesOf, Each}
+use Rattle.guarantee.specs.Guarantee.{Good}
 use Rattle.histories.proofs.Steps.{closed-same, closed-idle}
 
 -- an open job of the required class

@@ -11,16 +11,12 @@ use Rattle.states.specs.declared.State.{State}
 use Rattle.states.specs.State.{freshState}
 use Rattle.demands.specs.Above.{taskAt}
 use Rattle.all_bounds.specs.Asked.{allAnswer, boundCell}
-use Rattle.histories.specs.History.{Job, runRecord, jobsOf, outcomesOf}
+use Rattle.histories.specs.History.{Job, Each, runRecord, jobsOf, outcomesOf}
 use Rattle.guarantee.specs.Premise.{Premise}
 
 -- a closed job that opened in class 0 was met, at most the bound after its release
 abbrev pub Good : ℕ → Job → Type 0
 Good bound j = j .class ≡ 0 → (j .met ≡ true) × (j .closing ≤ j .release + bound)
-
-abbrev pub Each : (Job → Type 0) → List Job → Type 0
-Each P [] = Unit
-Each P (j ∷ jobs) = P j × Each P jobs
 
 -- of task i: its closed jobs, and any K of them in a row, its window number and `broken`
 pub record Promise (t : Table) (s : State) (es : List Event) (i : ℕ) : Type 0 where

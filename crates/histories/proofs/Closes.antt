@@ -35,16 +35,20 @@ closes-next r q l n = rw (l, ne-eqb (q .released) (r .released) n) (go (q .live)
     go true = refl
     go false = refl
 
--- an event of another kind, or of another task, completes no job of task i
-pub other-kind : (e : Event) (i : ℕ) → (e .kind ≡ 2 → ⊥) → completes e i ≡ false
-other-kind e i n = rw (ne-eqb (e .kind) 2 n)
+-- an event of another kind, or of another task, completes no job of task i, and releases none
+module _ (kind : ℕ) (e : Event) (i : ℕ) where
+  abbrev isOf : Bool
+  isOf = cond (eqb (e .kind) kind) (eqb (e .task) i) false
 
-pub other-task : (e : Event) (i : ℕ) → (i ≡ e .task → ⊥) → completes e i ≡ false
-other-task e i n = rw (ne-eqb (e .task) i (λ z. n (sym z))) (go (eqb (e .kind) 2))
-  where
-    go : (b : Bool) → cond b false false ≡ false
-    go true = refl
-    go false = refl
+  pub other-kind : (e .kind ≡ kind → ⊥) → isOf ≡ false
+  other-kind n = rw (ne-eqb (e .kind) kind n)
 
-pub completed : (e : Event) → e .kind ≡ 2 → completes e (e .task) ≡ true
-completed e k = rw (eq-eqb (e .kind) 2 k, eq-eqb (e .task) (e .task) refl)
+  pub other-task : (i ≡ e .task → ⊥) → isOf ≡ false
+  other-task n = rw (ne-eqb (e .task) i (λ z. n (sym z))) (go (eqb (e .kind) kind))
+    where
+      go : (b : Bool) → cond b false false ≡ false
+      go true = refl
+      go false = refl
+
+  pub own-task : e .kind ≡ kind → i ≡ e .task → isOf ≡ true
+  own-task k z = rw (eq-eqb (e .kind) kind k, eq-eqb (e .task) i (sym z))

@@ -99,28 +99,28 @@ module _ (s : State) (e : Event) (g : StateSound s) (room : s .count ≤ length 
       → History p (outcomesOf (jobsWith (recordAt s i) (recordAt (applied s e .state) i) e i jobs)) (recordAt (applied s e .state) i)
   next-history p jobs k = go (becomes s e room g i h)
     where
-      go : {q : Record} → Becomes s e room i q → History p (outcomesOf (jobsWith (recordAt s i) q e i jobs)) q
+      go : {b : Bool} {q : Record} → Becomes s e room i b q → History p (outcomesOf (jobsWith (recordAt s i) q e i jobs)) q
       go same = rw (closes-stays (recordAt s i)) k
-      go (passes m) = passed-kept p (recordAt s i) (s .clock) e i jobs k (g .each i h) (g .clock) m
-      go (reopens m) = reopened-kept p (recordAt s i) (s .clock) e i jobs k (g .each i h) (g .clock) m
-      go (finishes m l) = completed-kept p (recordAt s i) (s .clock) e i jobs k (g .each i h) (g .clock) m l
+      go (passes m o) = passed-kept p (recordAt s i) (s .clock) e i jobs k (g .each i h) (g .clock) m
+      go (reopens m o) = reopened-kept p (recordAt s i) (s .clock) e i jobs k (g .each i h) (g .clock) m
+      go (finishes m o l) = completed-kept p (recordAt s i) (s .clock) e i jobs k (g .each i h) (g .clock) m l
 
   -- a job that stays open stays as it opened
   stays-open : recordAt s i .live ≡ true → closes (recordAt s i) (recordAt (applied s e .state) i) ≡ false → recordAt (applied s e .state) i ≡ recordAt s i
   stays-open l = go (becomes s e room g i h)
     where
-      go : {q : Record} → Becomes s e room i q → closes (recordAt s i) q ≡ false → q ≡ recordAt s i
+      go : {b : Bool} {q : Record} → Becomes s e room i b q → closes (recordAt s i) q ≡ false → q ≡ recordAt s i
       go same n = refl
-      go (passes m) n = side (expiry (recordAt s i) (e .time)) n
+      go (passes m o) n = side (expiry (recordAt s i) (e .time)) n
         where
           side : {q : Record} → Expired (recordAt s i) (e .time) q → closes (recordAt s i) q ≡ false → q ≡ recordAt s i
           side (over o d) n = absurd (true-not-false (sym (closes-idle (recordAt s i) (closed (recordAt s i) false) l (closed-idle (recordAt s i) false)) ∙ n))
           side (stays d) n = refl
-      go (reopens m) n =
+      go (reopens m o) n =
           let q = cleared (expired (recordAt s i) (e .time)) in
           let z = cleared-same (expired (recordAt s i) (e .time)) .released ∙ expired-same (recordAt s i) (e .time) .released in
           absurd (true-not-false (sym (closes-next (recordAt s i) (opened q (e .time)) l (later-number (recordAt s i) (s .clock) e (g .each i h) (g .clock) q z)) ∙ n))
-      go (finishes m o) n =
+      go (finishes m o v) n =
           absurd (true-not-false (sym (closes-idle (recordAt s i) (closed (passed s e i) true) l (closed-idle (passed s e i) true)) ∙ n))
 
 -- a record's numbers are those of its task's closed jobs
@@ -141,7 +141,7 @@ abbrev pub Classed : Task → List Job → Type 0
 Classed task [] = Unit
 Classed task (j ∷ jobs) = (j .class ≡ classOf (rungAfter task (outcomesOf jobs) .level)) × Classed task jobs
 
-closing-open : (r q : Record) → closes r q ≡ true → r .live ≡ true
+pub closing-open : (r q : Record) → closes r q ≡ true → r .live ≡ true
 closing-open r q e = both-hold (r .live) (cond (q .live) (cond (eqb (q .released) (r .released)) false true) true) e .0
 
 module _ (t : Table) (good : judged t ≡ Accepted) where

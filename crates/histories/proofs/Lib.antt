@@ -5,3 +5,5 @@ pub mod Taken
 pub mod Reached
 pub mod InOrder
 pub mod Jobs
+pub mod Counted
+pub mod Traced

@@ -26,9 +26,9 @@ use Rattle.task_steps.specs.Steps.{tooSoon, reopened, isOpen}
 use Rattle.effects.specs.Steps.{expiredAll}
 use Rattle.effects.specs.Apply.{answerOf, accepted, refused, ticked, releasedAt, completedAt, byKind, timed, acted, applied}
 use Rattle.effects.proofs.Runs.{sound-acts}
-use Rattle.histories.specs.History.{accepts, completes}
+use Rattle.histories.specs.History.{accepts, completes, releases}
 use Rattle.histories.proofs.Steps.{is-open}
-use Rattle.histories.proofs.Closes.{other-kind, other-task, completed}
+use Rattle.histories.proofs.Closes.{other-kind, other-task, own-task}
 
 -- an accepted event's answer is no refusal
 pub accepts-answer : (s : State) → accepts (answerOf s) ≡ true
@@ -131,32 +131,37 @@ module _ (s : State) (e : Event) where
     pub set-elsewhere : (r : Record) (i : ℕ) → i < s .count → (i ≡ e .task → ⊥) → getD (set (expiredAll s (e .time)) (e .task) r) i noRecord ≡ passed i
     set-elsewhere r i h q = getD-set-other (expiredAll s (e .time)) (e .task) i r noRecord q ∙ all-passed i h
 
-    -- task i's record after the event: as it was, after step 1, or after its own release or completion
-    pub data Becomes (i : ℕ) : Record → Type 0 where
-      same : Becomes i (recordAt s i)
-      passes : completes e i ≡ false → Becomes i (passed i)
-      reopens : completes e i ≡ false → Becomes i (reopened (passed i) (e .time))
-      finishes : completes e i ≡ true → passed i .live ≡ true → Becomes i (closed (passed i) true)
+    -- task i's record after the event: as it was where the event is refused, else after step 1, or after its own release or completion
+    pub data Becomes (i : ℕ) : Bool → Record → Type 0 where
+      same : Becomes i false (recordAt s i)
+      passes : completes e i ≡ false → releases e i ≡ false → Becomes i true (passed i)
+      reopens : completes e i ≡ false → releases e i ≡ true → Becomes i true (reopened (passed i) (e .time))
+      finishes : completes e i ≡ true → releases e i ≡ false → passed i .live ≡ true → Becomes i true (closed (passed i) true)
 
-    pub becomes : StateSound s → (i : ℕ) → i < s .count → Becomes i (recordAt (applied s e .state) i)
+    pub becomes : StateSound s → (i : ℕ) → i < s .count → Becomes i (accepts (applied s e .answer)) (recordAt (applied s e .state) i)
     becomes g i h = go (took g)
       where
-        one-changed : (r : Record) → e .task < s .count → (i ≡ e .task → Becomes i r) → Becomes i (getD (set (expiredAll s (e .time)) (e .task) r) i noRecord)
+        taken : (q : State) → Becomes i true (recordAt q i) → Becomes i (accepts (answerOf q)) (recordAt q i)
+        taken q b = rw (accepts-answer q) b
+
+        one-changed : (r : Record) → e .task < s .count → (i ≡ e .task → Becomes i true r)
+            → Becomes i true (getD (set (expiredAll s (e .time)) (e .task) r) i noRecord)
         one-changed r c there = side (ℕ-discrete i (e .task))
           where
-            side : Dec (i ≡ e .task) → Becomes i (getD (set (expiredAll s (e .time)) (e .task) r) i noRecord)
+            side : Dec (i ≡ e .task) → Becomes i true (getD (set (expiredAll s (e .time)) (e .task) r) i noRecord)
             side (yes z) =
-                subst (Becomes i) (sym (ap (λ (j : ℕ). getD (set (expiredAll s (e .time)) (e .task) r) j noRecord) z ∙ set-there r c)) (there z)
-            side (no z) = subst (Becomes i) (sym (set-elsewhere r i h z)) (passes (other-task e i z))
+                subst (Becomes i true) (sym (ap (λ (j : ℕ). getD (set (expiredAll s (e .time)) (e .task) r) j noRecord) z ∙ set-there r c)) (there z)
+            side (no z) = subst (Becomes i true) (sym (set-elsewhere r i h z)) (passes (other-task 2 e i z) (other-task 1 e i z))
 
-        go : {a : Applied} → Took a → Becomes i (recordAt (a .state) i)
+        go : {a : Applied} → Took a → Becomes i (accepts (a .answer)) (recordAt (a .state) i)
         go (refusal n) = same
-        go (tick t k) = subst (Becomes i) (sym (all-passed i h)) (passes (other-kind e i (λ z. omega arith)))
-        go (release t k c o) =
-            one-changed (reopened (passed (e .task)) (e .time)) c
-            (λ z. subst (λ (j : ℕ). Becomes i (reopened (passed j) (e .time))) z (reopens (other-kind e i (λ y. omega arith))))
-        go (completion t k c o) =
-            one-changed (closed (passed (e .task)) true) c
+        go {a} (tick t k) =
+            taken (a .state) (subst (Becomes i true) (sym (all-passed i h)) (passes (other-kind 2 e i (λ z. omega arith)) (other-kind 1 e i (λ z. omega arith))))
+        go {a} (release t k c o) =
+            taken (a .state) (one-changed (reopened (passed (e .task)) (e .time)) c
+            (λ z. subst (λ (j : ℕ). Becomes i true (reopened (passed j) (e .time))) z (reopens (other-kind 2 e i (λ y. omega arith)) (own-task 1 e i k z))))
+        go {a} (completion t k c o) =
+            taken (a .state) (one-changed (closed (passed (e .task)) true) c
             (λ z.
-            subst (λ (j : ℕ). Becomes i (closed (passed j) true)) z
-            (finishes (ap (completes e) z ∙ completed e k) (ap (λ (j : ℕ). passed j .live) z ∙ is-open (passed (e .task)) (e .job) o .0)))
+            subst (λ (j : ℕ). Becomes i true (closed (passed j) true)) z
+            (finishes (own-task 2 e i k z) (other-kind 1 e i (λ y. omega arith)) (ap (λ (j : ℕ). passed j .live) z ∙ is-open (passed (e .task)) (e .job) o .0))))

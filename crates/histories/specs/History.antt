@@ -45,6 +45,10 @@ closes r q = cond (r .live) (cond (q .live) (cond (eqb (q .released) (r .release
 abbrev pub completes : Event → ℕ → Bool
 completes e i = cond (eqb (e .kind) 2) (eqb (e .task) i) false
 
+-- a release of task i
+abbrev pub releases : Event → ℕ → Bool
+releases e i = cond (eqb (e .kind) 1) (eqb (e .task) i) false
+
 abbrev pub closedJob : Record → Event → ℕ → Job
 closedJob r e i =
     record { number = r .released; release = r .last; class = r .class; closing = e .time; met = completes e i }
@@ -58,3 +62,8 @@ jobsOf s (e ∷ es) i =
 -- their outcomes, true for a met job
 abbrev pub outcomesOf : List Job → List Bool
 outcomesOf jobs = map (λ j. j .met) jobs
+
+-- of every job of a list
+abbrev pub Each : (Job → Type 0) → List Job → Type 0
+Each P [] = Unit
+Each P (j ∷ jobs) = P j × Each P jobs
