@@ -7,4 +7,5 @@ pub mod Theorem
 pub mod Fronts
 pub mod Codes
 pub mod Standing
+pub mod Times
 pub mod Listing

@@ -3,6 +3,7 @@
 use Prim.Native.Nat.{ℕ}
 use mathlib.Core.Path.{_≡_, refl}
 use mathlib.Core.List.{List, [], _∷_, _++_, map}
+use native.Mathlib.Omega.{arith}
 use lib.Count.{ones, onesIn}
 use lib.Dec.{lit<}
 use Rattle.laws.specs.Stores.{filled}
@@ -34,8 +35,10 @@ use Rattle.guarantee_of_logs.specs.Premise.{LogObeys}
 use Rattle.guarantee_of_logs.specs.Promise.{LogKeeps}
 use Rattle.guarantee_of_logs.specs.Bytes.{BothRead, startOf}
 use Rattle.guarantee_of_logs.specs.Codes.{codeAfter}
+use Rattle.guarantee_of_logs.specs.CodeTime.{CodesObey}
 use Rattle.guarantee_of_logs.proofs.Premise.{premise-either-way}
 use Rattle.guarantee_of_logs.proofs.Theorem.{guarantee-of-logs}
+use Rattle.guarantee_of_logs.proofs.Times.{answers-of-logs}
 
 -- ---- the bytes
 
@@ -96,6 +99,9 @@ bytes-kept =
       guarantee-of-logs tableBytes logBytes 16 bytes-read ok bytes-obey 0 (rw table-is (lit< tt)),
       guarantee-of-logs tableBytes logBytes 16 bytes-read ok bytes-obey 1 (rw table-is (lit< tt)),
     )
+
+pub bytes-obey-by-answers : CodesObey tableBytes logBytes
+bytes-obey-by-answers = answers-of-logs tableBytes logBytes bytes-read (omega arith) .premise .0 bytes-obey
 
 -- ---- the C function's answers for the first 0 to 7 records: none, 0, 0, 1, refused 11, 1, 0, refused 12
 

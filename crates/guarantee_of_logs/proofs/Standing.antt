@@ -1,6 +1,6 @@
 -- The state that stands at a tick is the last one whose clock is not after it, and its choice stands in the C function's answers: by induction on
 -- the events, of which a refused one leaves the state and an accepted one moves the clock to its time.
-use Prim.Native.Nat.{ℕ, zero, suc, _+_, _≤_, _<_}
+use Prim.Native.Nat.{ℕ, zero, suc, _+_, _*_, _≤_, _<_}
 use mathlib.Core.Path.{_≡_, refl, sym, ap, _∙_}
 use mathlib.Core.Bool.{Bool, true, false, cond}
 use mathlib.Core.List.{List}
@@ -25,8 +25,9 @@ use Rattle.histories.proofs.Taken.{Took, refusal, tick, release, completion, to
 use Rattle.codes.proofs.Starts.{begins-sound, begins-idle}
 use Rattle.guarantee_of_logs.specs.Places.{eventAt, afterFirst}
 use Rattle.guarantee_of_logs.specs.ChosenTime.{standingAt, StandsLast}
-use Rattle.guarantee_of_logs.specs.Bytes.{startOf}
-use Rattle.guarantee_of_logs.specs.Codes.{choiceCode, CodeTells, last-accepted, last-refused, standingCode, ChoicesOfLogs}
+use Rattle.guarantee_of_logs.specs.Bytes.{BothRead, startOf}
+use Rattle.guarantee_of_logs.specs.Codes.{choiceCode, CodeTells, last-accepted, last-refused}
+use Rattle.guarantee_of_logs.specs.CodeTime.{standingCode}
 use Rattle.guarantee_of_logs.proofs.Places.{after-sound, after-more}
 use Rattle.guarantee_of_logs.proofs.Codes.{choice-small, whole-count, codes-of-logs}
 
@@ -69,7 +70,7 @@ module _ (s : State) (es : List Event) (start : s .clock ≡ 0) (y : ℕ) where
 
 -- ---- what stands, by the answers of the C function
 
-accepted-clock : (s : State) (e : Event) → StateSound s → accepts (applied s e .answer) ≡ true → applied s e .state .clock ≡ e .time
+pub accepted-clock : (s : State) (e : Event) → StateSound s → accepts (applied s e .answer) ≡ true → applied s e .state .clock ≡ e .time
 accepted-clock s e g = go (took s e g)
   where
     go : {a : Applied} → Took s e a → accepts (a .answer) ≡ true → a .state .clock ≡ e .time
@@ -78,9 +79,9 @@ accepted-clock s e g = go (took s e g)
     go (release t k h o) q = refl
     go (completion t k h o) q = refl
 
-module _ (s : State) (es : List Event) (g : StateSound s) (y : ℕ) where
+module _ (s : State) (es : List Event) (y : ℕ) where
   -- a state that is tried again changes nothing
-  again : (n : ℕ) → cond (leb (afterFirst s es n .clock) y) (afterFirst s es n) (standingAt s es n y) ≡ standingAt s es n y
+  pub again : (n : ℕ) → cond (leb (afterFirst s es n .clock) y) (afterFirst s es n) (standingAt s es n y) ≡ standingAt s es n y
   unfolding standingAt stateAfter
   again zero = go (leb (s .clock) y)
     where
@@ -93,10 +94,10 @@ module _ (s : State) (es : List Event) (g : StateSound s) (y : ℕ) where
       go true q r = refl
       go false q r = refl
 
-  one-more : {n c : ℕ} (d : ℕ) → n < length es → CodeTells s es (suc n) c → choiceCode (standingAt s es n y) ≡ d
+  one-more : StateSound s → {n c : ℕ} (d : ℕ) → n < length es → CodeTells s es (suc n) c → choiceCode (standingAt s es n y) ≡ d
       → choiceCode (standingAt s es (suc n) y) ≡ cond (cond (ltb c 32) (leb (eventAt es n .time) y) false) c d
   unfolding standingAt
-  one-more d h (last-accepted n a) q =
+  one-more g d h (last-accepted n a) q =
       let c = ap (λ (x : State). x .clock) (after-more s es n h) ∙ accepted-clock (afterFirst s es n) (eventAt es n) (after-sound s (take n es) g) a in
       let t : leb (afterFirst s es (suc n) .clock) y ≡ leb (eventAt es n .time) y = ap (λ (x : ℕ). leb x y) c in
       let l : ltb (choiceCode (afterFirst s es (suc n))) 32 ≡ true =
@@ -106,12 +107,13 @@ module _ (s : State) (es : List Event) (g : StateSound s) (y : ℕ) where
       go : (b : Bool) → choiceCode (cond b (afterFirst s es (suc n)) (standingAt s es n y)) ≡ cond b (choiceCode (afterFirst s es (suc n))) d
       go true = refl
       go false = q
-  one-more d h (last-refused n k r z) q = rw (le-ltb (32 + k) 32 (omega arith), z, again n) q
+  one-more g d h (last-refused n k r z) q = rw (le-ltb (32 + k) 32 (omega arith), z, again n) q
 
-pub choices-of-logs : ChoicesOfLogs
+pub choice-stands : (table log : List ℕ) → BothRead table log → length log ≤ 65536 → (n y : ℕ) → 20 * n ≤ length log
+    → choiceCode (standingAt (startOf table) (eventsOf log) n y) ≡ standingCode table log n y
 unfolding standingCode standingAt
-choices-of-logs table log read size zero y h = rw (begins-idle table (read .tabled))
-choices-of-logs table log read size (suc n) y h =
-    one-more (startOf table) (eventsOf log) (begins-sound table (read .tabled)) y (standingCode table log n y)
+choice-stands table log read size zero y h = rw (begins-idle table (read .tabled))
+choice-stands table log read size (suc n) y h =
+    one-more (startOf table) (eventsOf log) y (begins-sound table (read .tabled)) (standingCode table log n y)
     (omega (arith, whole-count log (read .whole))) (codes-of-logs table log read size (suc n) h)
-    (choices-of-logs table log read size n y (omega arith))
+    (choice-stands table log read size n y (omega arith))

@@ -1,9 +1,8 @@
 -- What the C function `brumerola_choice` answers for the first n records of a log, and what that tells of the state after n events.
-use Prim.Native.Nat.{ℕ, zero, suc, _+_, _*_, _≤_}
+use Prim.Native.Nat.{ℕ, suc, _+_, _*_, _≤_}
 use mathlib.Core.Path.{_≡_}
 use mathlib.Core.Bool.{true, false, cond}
 use mathlib.Core.List.{List}
-use lib.Dec.{leb, ltb}
 use lib.ListN.{length, take}
 use Rattle.events.specs.declared.Event.{Event}
 use Rattle.logs.specs.Log.{eventsOf}
@@ -13,7 +12,6 @@ use Rattle.effects.specs.declared.Answer.the-variants.{Refused}
 use Rattle.effects.specs.Apply.{applied}
 use Rattle.codes.specs.Code.{codeOf}
 use Rattle.guarantee_of_logs.specs.Places.{eventAt, afterFirst, acceptedAt}
-use Rattle.guarantee_of_logs.specs.ChosenTime.{standingAt}
 use Rattle.guarantee_of_logs.specs.Bytes.{BothRead, startOf}
 
 -- the function's answer for the first n records
@@ -34,21 +32,8 @@ pub data CodeTells (s : State) (es : List Event) : ℕ → ℕ → Type 0 where
   last-refused : (n k : ℕ) → applied (afterFirst s es n) (eventAt es n) .answer ≡ Refused k
       → afterFirst s es (suc n) ≡ afterFirst s es n → CodeTells s es (suc n) (32 + k)
 
--- so of the logs that the function looks at every answer tells whether an event is accepted, and the choice after it
+-- of the logs that the function looks at, for every number of records
 abbrev pub CodesOfLogs : Type 0
 CodesOfLogs =
     (table log : List ℕ) → BothRead table log → length log ≤ 65536 → (n : ℕ) → 20 * n ≤ length log
     → CodeTells (startOf table) (eventsOf log) n (codeAfter table log n)
-
--- the code that stands at tick y: the answer after the last accepted event, a code below 32, whose time is not after y, and 16 before any
-unfoldable pub standingCode : List ℕ → List ℕ → ℕ → ℕ → ℕ
-standingCode table log zero y = 16
-standingCode table log (suc n) y =
-    cond (cond (ltb (codeAfter table log (suc n)) 32) (leb (eventAt (eventsOf log) n .time) y) false) (codeAfter table log (suc n))
-    (standingCode table log n y)
-
--- it is the choice that chosen time counts by
-abbrev pub ChoicesOfLogs : Type 0
-ChoicesOfLogs =
-    (table log : List ℕ) → BothRead table log → length log ≤ 65536 → (n y : ℕ) → 20 * n ≤ length log
-    → choiceCode (standingAt (startOf table) (eventsOf log) n y) ≡ standingCode table log n y

@@ -5,4 +5,5 @@ pub mod Premise
 pub mod Promise
 pub mod Bytes
 pub mod Codes
+pub mod CodeTime
 pub mod Guarantee
