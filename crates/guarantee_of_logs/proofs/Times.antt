@@ -5,11 +5,11 @@ use mathlib.Core.Path.{_≡_, refl, sym, ap, subst, _∙_}
 use mathlib.Core.Bool.{Bool, true, false, cond}
 use mathlib.Core.List.{List}
 use mathlib.Core.Logic.{_↔_}
-use native.Mathlib.Decide.{decLe}
+use native.Mathlib.Decide.{decLe, ℕ-discrete}
 use native.Mathlib.Omega.{arith}
 use borrow.Author.Tests.{le-leb, lt-leb, eq-eqb, ne-eqb}
 use lib.Dec.{eqb, leb}
-use lib.ListN.{length}
+use lib.ListN.{length, getD, set}
 use Rattle.laws.specs.Numbers.{oneIf}
 use Rattle.laws.proofs.Sums.{total-same}
 use Rattle.laws.proofs.Tests.{same-test}
@@ -21,15 +21,19 @@ use Rattle.table_bytes.specs.Reading.{readTable}
 use Rattle.table_bytes.proofs.Given.{read-good}
 use Rattle.logs.specs.Log.{eventsOf}
 use Rattle.records.specs.declared.Record.{Record}
-use Rattle.jobs.specs.Opening.{opened}
+use Rattle.records.specs.Closing.{closed}
+use Rattle.jobs.specs.Opening.{opened, noRecord}
+use Rattle.task_steps.specs.Steps.{reopened}
 use Rattle.states.specs.declared.State.{State}
 use Rattle.states.specs.State.{recordAt, freshState}
 use Rattle.states.specs.Sound.{StateSound}
 use Rattle.states.specs.Choice.{chosen}
+use Rattle.effects.specs.declared.Applied.{Applied}
+use Rattle.effects.specs.Steps.{expiredAll}
 use Rattle.effects.specs.Apply.{applied}
 use Rattle.effects.specs.Log.{stateAfter}
-use Rattle.histories.proofs.Steps.{Same, closed-same, cleared-same, expired-same}
-use Rattle.histories.proofs.Taken.{passed, Becomes, same, passes, reopens, finishes, becomes, refused-leaves}
+use Rattle.histories.proofs.Steps.{closed-same, cleared-same, expired-same}
+use Rattle.histories.proofs.Taken.{passed, Took, refusal, tick, release, completion, took, refused-leaves, all-passed, set-there, set-elsewhere}
 use Rattle.histories.proofs.Reached.{Reached, room-for, reached}
 use Rattle.guarantee.specs.ChosenTime.{isChoice}
 use Rattle.codes.proofs.Starts.{answer-is, begins-sound}
@@ -52,20 +56,40 @@ module _ (q : State) (e : Event) (g : StateSound q) (room : q .count ≤ length 
     stays : r .last ≡ recordAt q i .last → r .released ≡ recordAt q i .released → Numbers r
     rises : r .last ≡ e .time → r .released ≡ suc (recordAt q i .released) → Numbers r
 
-  numbers : Numbers (recordAt (applied q e .state) i)
-  unfolding opened
-  numbers = go (becomes q e room g i h)
-    where
-      p : Same (recordAt q i) (passed q e i)
-      p = expired-same (recordAt q i) (e .time)
+  -- step 1 alone
+  passing : Numbers (passed q e i)
+  passing = let p = expired-same (recordAt q i) (e .time) in stays (p .last) (p .released)
 
-      go : {r : Record} → Becomes q e room i r → Numbers r
-      go same = stays refl refl
-      go (passes m) = stays (p .last) (p .released)
-      go (reopens m) =
-          let c = cleared-same (passed q e i) .released ∙ p .released in
-          rises refl (omega (arith, c, g .each i h .spaced, g .each i h .past, g .clock))
-      go (finishes m l) = stays (closed-same (passed q e i) true .last ∙ p .last) (closed-same (passed q e i) true .released ∙ p .released)
+  releasing : Numbers (reopened (passed q e i) (e .time))
+  unfolding opened
+  releasing =
+      let c = cleared-same (passed q e i) .released ∙ expired-same (recordAt q i) (e .time) .released in
+      rises refl (omega (arith, c, g .each i h .spaced, g .each i h .past, g .clock))
+
+  completing : Numbers (closed (passed q e i) true)
+  completing =
+      let p = expired-same (recordAt q i) (e .time) in
+      let c = closed-same (passed q e i) true in
+      stays (c .last ∙ p .last) (c .released ∙ p .released)
+
+  numbers : Numbers (recordAt (applied q e .state) i)
+  numbers = go (took q e g)
+    where
+      -- the event's own task, or another
+      own : (r : Record) → e .task < q .count → (i ≡ e .task → Numbers r) → Dec (i ≡ e .task)
+          → Numbers (getD (set (expiredAll q (e .time)) (e .task) r) i noRecord)
+      own r c f (yes z) =
+          subst Numbers (sym (ap (λ (j : ℕ). getD (set (expiredAll q (e .time)) (e .task) r) j noRecord) z ∙ set-there q e room r c)) (f z)
+      own r c f (no z) = subst Numbers (sym (set-elsewhere q e room r i h z)) passing
+
+      go : {a : Applied} → Took q e a → Numbers (recordAt (a .state) i)
+      go (refusal n) = stays refl refl
+      go (tick t k) = subst Numbers (sym (all-passed q e room i h)) passing
+      go (release t k c o) =
+          own (reopened (passed q e (e .task)) (e .time)) c (λ z. subst (λ (j : ℕ). Numbers (reopened (passed q e j) (e .time))) z releasing)
+          (ℕ-discrete i (e .task))
+      go (completion t k c o) =
+          own (closed (passed q e (e .task)) true) c (λ z. subst (λ (j : ℕ). Numbers (closed (passed q e j) true)) z completing) (ℕ-discrete i (e .task))
 
 -- ---- the number in the state that stands at tick y
 
