@@ -8,7 +8,7 @@ use mathlib.Core.Logic.{_↔_}
 use native.Mathlib.Omega.{arith}
 use lib.ListN.{length, take}
 use lib.Seq.{take-suc, length-take-le}
-use Rattle.laws.proofs.Tests.{by-test, true-not-false}
+use Rattle.laws.proofs.Tests.{by-test, true-not-false, tells-true}
 use Rattle.tables.specs.declared.Answer.the-variants.{Accepted}
 use Rattle.table_bytes.specs.Reading.{readTable}
 use Rattle.events.specs.declared.Event.{Event}
@@ -19,12 +19,13 @@ use Rattle.states.specs.declared.State.{State}
 use Rattle.states.specs.State.{recordAt}
 use Rattle.states.specs.Sound.{StateSound}
 use Rattle.states.specs.Choice.{chosen}
+use Rattle.states.proofs.Sounding.{state-tells}
 use Rattle.choices.proofs.Least.{found-below}
 use Rattle.effects.specs.declared.Answer.{Answer}
 use Rattle.effects.specs.declared.Answer.the-variants as A
 use Rattle.effects.specs.declared.Applied.{Applied}
 use Rattle.effects.specs.Apply.{answerOf, applied}
-use Rattle.effects.specs.Log.{standing, ranOver, stateAfter}
+use Rattle.effects.specs.Log.{standing, ranOver, stateAfter, ran}
 use Rattle.histories.specs.History.{accepts}
 use Rattle.histories.proofs.Taken.{refused-leaves, answers-choice}
 use Rattle.codes.specs.Code.{codeFor, ofAnswer, codeOf}
@@ -33,7 +34,7 @@ use Rattle.codes.proofs.Starts.{begins-sound, begins-idle}
 use Rattle.codes.proofs.Exactly.{given-exactly}
 use Rattle.codes.proofs.Told.{empty-log}
 use Rattle.guarantee_of_logs.specs.Places.{eventAt, afterFirst, acceptedAt}
-use Rattle.guarantee_of_logs.specs.Bytes.{ReadsWhole, startOf}
+use Rattle.guarantee_of_logs.specs.Bytes.{ReadsWhole, BothRead, startOf}
 use Rattle.guarantee_of_logs.specs.Codes.{codeAfter, choiceCode, CodeTells, at-first, last-accepted, last-refused, CodesOfLogs}
 use Rattle.guarantee_of_logs.proofs.Places.{after-sound, after-more}
 use Rattle.guarantee_of_logs.proofs.Fronts.{events-length, front-events, front-whole}
@@ -107,6 +108,16 @@ codes-of-logs table log read size (suc n) h =
     let k : n < length (eventsOf log) = omega (arith, whole-count log (read .whole)) in
     subst (CodeTells (startOf table) (eventsOf log) (suc n)) (sym (front-code table log (read .tabled) size n (rw (events-length log) at k)))
     (told (startOf table) (eventsOf log) (begins-sound table (read .tabled)) n k)
+
+-- the state that `engine::log::run` leaves by the first n records is the one after n events
+pub ran-front : (table log : List ℕ) → BothRead table log → (n : ℕ) → 20 * n ≤ length log
+    → ran (startOf table) (take (20 * n) log) .state ≡ afterFirst (startOf table) (eventsOf log) n
+unfolding ran
+ran-front table log read n h =
+    let s = startOf table in
+    let k : n ≤ length (eventsOf log) = omega (arith, whole-count log (read .whole)) in
+    rw (tells-true (state-tells s) (begins-sound table (read .tabled)), front-events n log (rw (events-length log) at k))
+    (after-over (standing s) (take n (eventsOf log)))
 
 -- ---- what a caller reads off a code
 

@@ -36,7 +36,7 @@ pub record MetBy (bound : ℕ) (r : Record) (i : ℕ) (e : Event) : Type 0 where
 abbrev pub EachRow : Task → List Bool → Type 0
 EachRow task os = (older row newer : List Bool) → os ≡ older ++ row ++ newer → length row ≤ task .k → misses row ≤ task .m
 
--- a job of class 0 that closes was met, and no window is broken; a job that is still open when the log ends is not judged
+-- a job of class 0 that closes was met within the bound, and no window is broken; a job that is still open when the log ends is not judged
 pub record LogKeeps (t : Table) (s : State) (es : List Event) (i : ℕ) : Type 0 where
   pub required : (n : ℕ) → n < length es → closesAt s es i n ≡ true → recordAfter s es n i .class ≡ 0
       → MetBy (boundCell t i) (recordAfter s es n i) i (eventAt es n)
