@@ -1,0 +1,35 @@
+-- A completion that closes a job names it: no other event alters a record and completes, and this one was checked against the open job's number.
+use Prim.Native.Nat.{ℕ}
+use mathlib.Core.Path.{_≡_, sym, _∙_}
+use mathlib.Core.Bool.{true}
+use native.Mathlib.Omega.{arith}
+use borrow.Author.Tests.{eqb-true}
+use lib.Dec.{eqb}
+use Rattle.laws.proofs.Tests.{true-not-false, both-hold}
+use Rattle.events.specs.declared.Event.{Event}
+use Rattle.states.specs.declared.State.{State}
+use Rattle.states.specs.State.{recordAt}
+use Rattle.states.specs.Sound.{StateSound}
+use Rattle.effects.specs.declared.Applied.{Applied}
+use Rattle.effects.specs.Apply.{applied}
+use Rattle.histories.specs.History.{closes, completes}
+use Rattle.histories.proofs.Closes.{closes-stays}
+use Rattle.histories.proofs.Steps.{expired-same, is-open}
+use Rattle.histories.proofs.Taken.{passed, Took, refusal, tick, release, completion, took}
+
+pub named : (s : State) (e : Event) → StateSound s → (i : ℕ) → closes (recordAt s i) (recordAt (applied s e .state) i) ≡ true → completes e i ≡ true
+    → e .job ≡ recordAt s i .released
+named s e g i c q = go (took s e g) c
+  where
+    kind : e .kind ≡ 2
+    kind = eqb-true _ _ (both-hold (eqb (e .kind) 2) (eqb (e .task) i) q .0)
+
+    task : e .task ≡ i
+    task = eqb-true _ _ (both-hold (eqb (e .kind) 2) (eqb (e .task) i) q .1)
+
+    go : {a : Applied} → Took s e a → closes (recordAt s i) (recordAt (a .state) i) ≡ true → e .job ≡ recordAt s i .released
+    go (refusal n) c = absurd (true-not-false (sym c ∙ closes-stays (recordAt s i)))
+    go (tick t k) c = absurd (omega (arith, kind))
+    go (release t k h o) c = absurd (omega (arith, kind))
+    go (completion t k h o) c =
+        rw task at (sym (is-open (passed s e (e .task)) (e .job) o .1) ∙ expired-same (recordAt s (e .task)) (e .time) .released)

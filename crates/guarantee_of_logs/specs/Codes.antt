@@ -1,0 +1,39 @@
+-- What the C function `brumerola_choice` answers for the first n records of a log, and what that tells of the state after n events.
+use Prim.Native.Nat.{ℕ, suc, _+_, _*_, _≤_}
+use mathlib.Core.Path.{_≡_}
+use mathlib.Core.Bool.{true, false, cond}
+use mathlib.Core.List.{List}
+use lib.ListN.{length, take}
+use Rattle.events.specs.declared.Event.{Event}
+use Rattle.logs.specs.Log.{eventsOf}
+use Rattle.states.specs.declared.State.{State}
+use Rattle.states.specs.Choice.{chosen}
+use Rattle.effects.specs.declared.Answer.the-variants.{Refused}
+use Rattle.effects.specs.Apply.{applied}
+use Rattle.codes.specs.Code.{codeOf}
+use Rattle.guarantee_of_logs.specs.Places.{eventAt, afterFirst, acceptedAt}
+use Rattle.guarantee_of_logs.specs.Bytes.{BothRead, startOf}
+
+-- the function's answer for the first n records
+abbrev pub codeAfter : List ℕ → List ℕ → ℕ → ℕ
+codeAfter table log n = codeOf table (take (20 * n) log)
+
+-- the chosen position, or 16 for none
+abbrev pub choiceCode : State → ℕ
+choiceCode s = cond (chosen s .found) (chosen s .at) 16
+
+-- what the code after n events tells
+pub data CodeTells (s : State) (es : List Event) : ℕ → ℕ → Type 0 where
+  -- no event yet, and nothing is chosen
+  at-first : chosen s .found ≡ false → CodeTells s es 0 16
+  -- the last event was accepted: the choice that stands after it
+  last-accepted : (n : ℕ) → acceptedAt s es n ≡ true → CodeTells s es (suc n) (choiceCode (afterFirst s es (suc n)))
+  -- or refused: its number, and the state and its choice stay
+  last-refused : (n k : ℕ) → applied (afterFirst s es n) (eventAt es n) .answer ≡ Refused k
+      → afterFirst s es (suc n) ≡ afterFirst s es n → CodeTells s es (suc n) (32 + k)
+
+-- of the logs that the function looks at, for every number of records
+abbrev pub CodesOfLogs : Type 0
+CodesOfLogs =
+    (table log : List ℕ) → BothRead table log → length log ≤ 65536 → (n : ℕ) → 20 * n ≤ length log
+    → CodeTells (startOf table) (eventsOf log) n (codeAfter table log n)

@@ -1,0 +1,28 @@
+-- Demand 3 for the bytes that the C function takes.
+use Prim.Native.Nat.{ℕ, _≤_, _<_}
+use mathlib.Core.Path.{_≡_}
+use mathlib.Core.List.{List}
+use lib.ListN.{length}
+use Rattle.tables.specs.declared.Answer.the-variants.{Accepted}
+use Rattle.table_bytes.specs.Reading.{readTable}
+use Rattle.logs.specs.Log.{eventsOf}
+use Rattle.all_bounds.specs.Asked.{allAnswer}
+use Rattle.guarantee_of_logs.specs.Premise.{LogObeys}
+use Rattle.guarantee_of_logs.specs.Promise.{LogKeeps}
+use Rattle.guarantee_of_logs.specs.Bytes.{BothRead, startOf}
+use Rattle.guarantee_of_logs.specs.CodeTime.{CodesObey}
+
+-- for table bytes that read and whose analysis, with room for so many numbers, gives all bounds, and log bytes that read to their end and obey
+-- the premise: of every task
+abbrev pub GuaranteeOfLogs : Type 0
+GuaranteeOfLogs =
+    (table log : List ℕ) (room : ℕ) → BothRead table log → allAnswer (readTable table .table) room ≡ Accepted
+    → LogObeys (startOf table) (eventsOf log)
+    → (i : ℕ) → i < readTable table .table .count → LogKeeps (readTable table .table) (startOf table) (eventsOf log) i
+
+-- the same where the premise is read off the function's answers, of a log that it looks at
+abbrev pub GuaranteeByAnswers : Type 0
+GuaranteeByAnswers =
+    (table log : List ℕ) (room : ℕ) → BothRead table log → length log ≤ 65536 → allAnswer (readTable table .table) room ≡ Accepted
+    → CodesObey table log
+    → (i : ℕ) → i < readTable table .table .count → LogKeeps (readTable table .table) (startOf table) (eventsOf log) i
