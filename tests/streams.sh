@@ -5,9 +5,12 @@ set -eu
 cd "$(dirname "$0")/.."
 . tests/machine.sh
 compiler
-rt check listing >/dev/null
 work=$(mktemp -d)
 trap 'rm -rf "$work"' EXIT
+rt check listing >"$work/built" 2>&1 || {
+    cat "$work/built"
+    exit 1
+}
 input=crates/listing/stdin
 no_input='listing: standard input could not be read to its end, so nothing is listed; give it a file or a pipe'
 no_output='listing: standard output did not take the whole listing, so what it has is cut; open it or give it room'
@@ -86,7 +89,7 @@ said('an empty pipe that does not block', no_input + '\n', stdin=read, stdout=su
 source, feed = os.pipe()
 os.write(feed, table + events)
 os.close(feed)
-fcntl.fcntl(write, fcntl.F_SETPIPE_SZ, 4096)
+fcntl.fcntl(write, 1031, 4096)  # F_SETPIPE_SZ, which older Pythons have no name for
 said('a full pipe that does not block', no_output + '\n', stdin=source, stdout=write)
 front = os.read(read, len(whole))
 if len(front) != 4096 or not whole.startswith(front):
