@@ -2,6 +2,7 @@
 use refusal_lines::refused;
 use refusal_lines::too_long;
 use table_listings::of_table;
+use texts::words;
 ghost use mathlib.Core.Path.{_≡_};
 ghost use lib.ListN.{length};
 ghost use Rattle.texts.specs.Sheet.{sheet, puts};
@@ -58,13 +59,15 @@ fn written(out: &mut [u8], input: &[u8]) -> usize
     of_table(out, &input[1..from], &input[from..])
 }
 
-// The listing of an input in lent bytes, of which the room has to be there whatever the input is.
+// The listing of an input in lent bytes. It is made in bytes of its own first, so that bytes that are too short for it are left as they were.
 pub fn list(input: &[u8], out: &mut [u8]) -> Listing
     ensures { λ r. ⌜ (r ≡ listAnswer (now (input .entry)) (length (now (out .entry)))) × (now (out .exit) ≡ listedInto (now (input .entry)) (now (out .entry))) ⌝ }
 {
-    if out.len() < ROOM {
+    let mut text = [0u8; ROOM];
+    let end = written(&mut text, input);
+    if out.len() < end {
         return Listing::Refused(14);
     }
-    let end = written(out, input);
+    words(out, 0, &text[..end]);
     Listing::Text(end)
 }

@@ -1,7 +1,8 @@
 -- What one record reads as, case by case: the first condition that holds decides.
 use Prim.Native.Nat.{ℕ, zero, suc}
-use mathlib.Core.Path.{_≡_, refl, _∙_}
-use mathlib.Core.List.{List}
+use mathlib.Core.Path.{_≡_, refl, ap, _∙_}
+use mathlib.Core.List.{List, [], _∷_}
+use mathlib.Core.Logic.{_↔_}
 use native.Mathlib.Omega.{arith}
 use borrow.Author.Tests.{eq-eqb, ne-eqb}
 use lib.ListN.{length, getD}
@@ -9,7 +10,7 @@ use Rattle.task_bytes.specs.declared.Row.{Row}
 use Rattle.task_bytes.specs.declared.Row.the-variants as Row
 use Rattle.tables.specs.declared.Task.{Task}
 use Rattle.tables.specs.Rules.{taskFault}
-use Rattle.task_bytes.specs.Answers.{rowNumber}
+use Rattle.task_bytes.specs.Answers.{rowSaid}
 use Rattle.task_bytes.specs.Reading.{Marked, taskOf, recordFault, rowBy, readRow}
 
 module _ (s : List ℕ) where
@@ -59,10 +60,18 @@ module _ (s : List ℕ) where
       go (suc y) q r = let w : suc y ≡ x = cc in (q ∙ w, λ z. omega arith)
 
   -- the number that a record is answered by is its fault
-  pub row-number : rowNumber (readRow s) ≡ recordFault s
+  pub row-number : rowSaid (readRow s) .number ≡ recordFault s
   unfolding readRow
   row-number = go (recordFault s)
     where
-      go : (y : ℕ) → rowNumber (rowBy y (taskOf s)) ≡ y
+      go : (y : ℕ) → rowSaid (rowBy y (taskOf s)) .number ≡ y
       go zero = refl
       go (suc y) = refl
+
+  -- and a task is handed over exactly where there is no fault: the one that its bytes hold
+  pub row-tasks : (t : Task) → rowSaid (readRow s) .tasks ≡ t ∷ [] ↔ (recordFault s ≡ 0) × (t ≡ taskOf s)
+  row-tasks t = (λ e. task-row t (go (readRow s) e), λ h. rw (row-task (h .0), h .1))
+    where
+      go : (r : Row) → rowSaid r .tasks ≡ t ∷ [] → r ≡ Row.Task t
+      go (Row.Task u) e = let w : u ≡ t = cc in ap Row.Task w
+      go (Row.Refused n) e = let z : _≡_ {A = ℕ} 0 1 = cc in absurd (omega arith)

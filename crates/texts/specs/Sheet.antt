@@ -12,9 +12,12 @@ pub record Sheet : Type 0 where
 abbrev pub sheet : List ℕ → ℕ → Sheet
 sheet s at = record { bytes = s; place = at }
 
--- a byte at the place; one that does not fit is left out
+-- a byte at the place; one that does not fit is left out, and the place one past the end says so
 unfoldable pub put : Sheet → ℕ → Sheet
-put s b = cond (ltb (s .place) (length (s .bytes))) (sheet (set (s .bytes) (s .place) b) (s .place + 1)) s
+put s b =
+    cond (ltb (s .place) (length (s .bytes)))
+    (sheet (set (s .bytes) (s .place) b) (s .place + 1))
+    (sheet (s .bytes) (length (s .bytes) + 1))
 
 -- a text, byte by byte
 unfoldable pub puts : Sheet → List ℕ → Sheet

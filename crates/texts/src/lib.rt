@@ -1,4 +1,4 @@
-// Text in a lent slice: bytes and decimal numbers put at a place, and the place behind them. What does not fit is left out, so that no place is past the end.
+// Text in a lent slice: bytes and decimal numbers put at a place, and the place behind them. What does not fit is left out, and the place is then past the end.
 ghost use mathlib.Core.Path.{_≡_};
 ghost use mathlib.Core.List.{_++_};
 ghost use Rattle.texts.specs.Sheet.{sheet, put, puts};
@@ -11,7 +11,7 @@ fn byte(out: &mut [u8], at: usize, value: u8) -> usize
         out[at] = value;
         return at + 1;
     }
-    at
+    out.len() + 1
 }
 
 pub fn words(out: &mut [u8], at: usize, text: &[u8]) -> usize

@@ -1,4 +1,4 @@
--- `texts::byte` meets its contract: the byte is stored, or there is no room for it.
+-- `texts::byte` meets its contract: the byte is stored, or there is no room for it and the place says so.
 use borrow.Author.Tests.{lt-ltb, le-ltb}
 use borrow.Author.Needs.{needs}
 use Rattle.texts.specs.Sheet.{put}
@@ -18,9 +18,13 @@ returns : tie.Need-returns
 unfolding put
 returns c = rw (lt-ltb _ _ (c .if1 .taken))
 
+-- a slice is shorter than its places can count
+add-result-2 : tie.Need-add-result-2
+add-result-2 c = search needs
+
 returns-2 : tie.Need-returns-2
 unfolding put
 returns-2 c = rw (le-ltb _ _ (c .if1 .left))
 
 pub byte-spec : {M : Type 1} → statement M
-byte-spec = tie.close (tie.spec slice-write-out add-result same-length returns returns-2)
+byte-spec = tie.close (tie.spec slice-write-out add-result same-length returns add-result-2 returns-2)
