@@ -32,7 +32,7 @@ use Rattle.all_bounds.specs.Asked.{allAnswer}
 use Rattle.codes.specs.Code.{logCase, caseOf, codeOf}
 use Rattle.guarantee.proofs.Listing.{releases, finishes, ticks, listed, seven-obey, eighth-late}
 use Rattle.guarantee_of_logs.specs.Premise.{LogObeys}
-use Rattle.guarantee_of_logs.specs.Promise.{LogKeeps}
+use Rattle.guarantee_of_logs.specs.Keeps.{LogKeeps}
 use Rattle.guarantee_of_logs.specs.Bytes.{BothRead, startOf}
 use Rattle.guarantee_of_logs.specs.Codes.{codeAfter}
 use Rattle.guarantee_of_logs.specs.CodeTime.{CodesObey}

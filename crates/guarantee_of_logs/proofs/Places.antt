@@ -20,7 +20,7 @@ use Rattle.histories.proofs.InOrder.{onto, told-in-order}
 use Rattle.guarantee.specs.ChosenTime.{standsAt, isChoice, chosenTime, openTime}
 use Rattle.guarantee_of_logs.specs.Places.{eventAt, afterFirst}
 use Rattle.guarantee_of_logs.specs.ChosenTime.{standingAt, chosenAfter, openAfter}
-use Rattle.guarantee_of_logs.specs.Promise.{closesAt, outcomesTo}
+use Rattle.guarantee_of_logs.specs.Keeps.{closesAt, outcomesTo}
 
 -- the first n events, newest first
 abbrev pub newest : List Event → ℕ → List Event

@@ -9,7 +9,7 @@ use lib.Seq.{take-append-seam, drop-append-seam}
 use Rattle.tables.specs.declared.Task.{Task}
 use Rattle.windows.specs.Outcomes.{misses}
 use Rattle.windows.specs.Bound.{Within}
-use Rattle.guarantee_of_logs.specs.Promise.{EachRow}
+use Rattle.guarantee_of_logs.specs.Keeps.{EachRow}
 
 misses-append : (a b : List Bool) → misses (a ++ b) ≡ misses a + misses b
 misses-append [] b = omega arith

@@ -25,7 +25,7 @@ use Rattle.guarantee.specs.Guarantee.{Good, Promise}
 use Rattle.guarantee.proofs.Theorem.{guarantee}
 use Rattle.guarantee_of_logs.specs.Places.{eventAt, recordAfter}
 use Rattle.guarantee_of_logs.specs.Premise.{LogObeys}
-use Rattle.guarantee_of_logs.specs.Promise.{closesAt, MetBy, LogKeeps}
+use Rattle.guarantee_of_logs.specs.Keeps.{closesAt, MetBy, LogKeeps}
 use Rattle.guarantee_of_logs.specs.Guarantee.{GuaranteeOfLogs}
 use Rattle.guarantee_of_logs.proofs.Places.{newest, newest-more, after-is, closes-is, outcomes-is}
 use Rattle.guarantee_of_logs.proofs.Premise.{premise-to}

@@ -8,7 +8,7 @@ use Rattle.table_bytes.specs.Reading.{readTable}
 use Rattle.logs.specs.Log.{eventsOf}
 use Rattle.all_bounds.specs.Asked.{allAnswer}
 use Rattle.guarantee_of_logs.specs.Premise.{LogObeys}
-use Rattle.guarantee_of_logs.specs.Promise.{LogKeeps}
+use Rattle.guarantee_of_logs.specs.Keeps.{LogKeeps}
 use Rattle.guarantee_of_logs.specs.Bytes.{BothRead, startOf}
 use Rattle.guarantee_of_logs.specs.CodeTime.{CodesObey}
 

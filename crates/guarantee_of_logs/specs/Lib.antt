@@ -2,7 +2,7 @@
 pub mod Places
 pub mod ChosenTime
 pub mod Premise
-pub mod Promise
+pub mod Keeps
 pub mod Bytes
 pub mod Codes
 pub mod CodeTime
