@@ -278,6 +278,7 @@ static void large_sizes(void) {
         expect("a log past 32 bits, and no table", brumerola_choice(NULL, 0, reserved[1], size), 64);
         expect("both past 32 bits", brumerola_choice(reserved[0], size, reserved[1], size), 64);
     }
+    expect("a log too long, and neither may be read", brumerola_choice(reserved[0] + front, 32, reserved[1] + front, 65537), 64);
     for (i = 0; i < 2; i++) munmap(reserved[i], large + 2 * front);
 }
 
