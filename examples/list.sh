@@ -5,5 +5,5 @@ here=$(dirname "$(dirname "$(readlink -f "$0")")")
 input=$(readlink -f -- "${1:-$here/examples/line.bin}")
 cd "$here"
 . tests/machine.sh
-rt check listing >&2
+program listing >&2
 $start target/bin/listing <"$input"

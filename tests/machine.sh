@@ -39,6 +39,12 @@ compiler() {
     fi
 }
 
+# program NAME: target/bin/NAME as the sources have it; rt asks whether they have changed, and not whether the program is still there
+program() {
+    { [ -x "target/bin/$1" ] && [ -f "target/obj/$1.o" ]; } || rm -f "target/stamp/$1"
+    rt check "$1"
+}
+
 # client WORDS..: the rig's client over the static library, by these words of the compiler
 client() { "$cc" -std=c99 -Wall -Wextra -Werror -O2 -I include "$@" tests/rig.c target/staticlib/librig.a -lpthread; }
 

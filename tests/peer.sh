@@ -6,7 +6,7 @@ cd "$(dirname "$(readlink -f "$0")")/.."
 compiler
 mkdir -p target/tests
 rt staticlib rig
-rt check listing
+program listing
 client -static -o target/tests/rig
 rustc --edition 2021 -O -o target/tests/peer tests/peer.rs
 target/tests/peer vectors tests/cases
