@@ -1,6 +1,6 @@
--- Gathering the tasks above, position by position: what was gathered asks for as much as the positions passed.
+-- A task's load asks for as much as the table, and a turn of the loop is a clause of its definition: by induction on the positions passed.
 use Prim.Native.Nat.{ℕ, zero, suc, _+_, _≤_, _<_}
-use mathlib.Core.Path.{_≡_, refl, sym, _∙_}
+use mathlib.Core.Path.{_≡_, refl, _∙_}
 use mathlib.Core.Bool.{Bool, true, false, cond}
 use mathlib.Core.List.{List}
 use native.Mathlib.Nat.{le-refl, add-zero, not-suc-le-zero}
@@ -8,6 +8,7 @@ use native.Mathlib.Decide.{decLt, ℕ-discrete}
 use native.Mathlib.Numerals.{add-one}
 use native.Mathlib.Omega.{arith}
 use borrow.Author.Tests.{le-ltb, lt-leb}
+use lib.Dec.{ltb, leb}
 use lib.ListN.{length, getD, set, replicate, length-set, getD-replicate, List·getD-eq-default}
 use lib.Seq.{getD-set-same, getD-set-other}
 use Rattle.laws.specs.Numbers.{oneIf}
@@ -20,26 +21,27 @@ use Rattle.demands.specs.declared.Part.{Part}
 use Rattle.demands.specs.declared.Load.{Load}
 use Rattle.demands.specs.Above.{taskAt, isAbove}
 use Rattle.demands.specs.Demand.{costOf, spacingOf, partAt, demand}
-use Rattle.demands.specs.Load.{noPart, partFor, countTo, partsTo, loadAt, partIn, loadDemand, LoadOf}
+use Rattle.demands.specs.Load.{noPart, partFor, emptyLoad, countTo, partsTo, loadAt, partIn, loadDemand, LoadOf}
 use Rattle.demands.proofs.Obeyed.{few, cost-some, spacing-some}
 
 -- n parts of the tasks above k among the first i positions
-pub record Gathered (t : Table) (k : ℕ) (ps : List Part) (n i : ℕ) : Type 0 where
-  pub places : length ps ≡ 16
-  pub spaced : (j : ℕ) → j < n → 1 ≤ getD ps j noPart .spacing
-  pub parts : (r : ℕ) → total (partIn ps r) n ≡ total (partAt t k r) i
+record Gathered (t : Table) (k : ℕ) (ps : List Part) (n i : ℕ) : Type 0 where
+  places : length ps ≡ 16
+  spaced : (j : ℕ) → j < n → 1 ≤ getD ps j noPart .spacing
+  parts : (r : ℕ) → total (partIn ps r) n ≡ total (partAt t k r) i
 
 module _ (t : Table) (k : ℕ) where
-  pub gathered-none : Gathered t k (replicate 16 noPart) 0 0
+  gathered-none : Gathered t k (replicate 16 noPart) 0 0
   unfolding total
   gathered-none = record { places = refl; spaced = λ j h. absurd (not-suc-le-zero h); parts = λ r. refl }
 
-  pub gathered-skip : (ps : List Part) (n i : ℕ) → Gathered t k ps n i → isAbove t i k ≡ false → Gathered t k ps n (suc i)
+  gathered-skip : (ps : List Part) (n i : ℕ) → Gathered t k ps n i → isAbove t i k ≡ false → Gathered t k ps n (suc i)
   unfolding total
   gathered-skip ps n i g e =
       record { places = g .places; spaced = g .spaced; parts = λ r. g .parts r ∙ rw e (omega arith) }
 
-  pub gathered-more : (ps : List Part) (n i : ℕ) → n < 16 → Gathered t k ps n i → isAbove t i k ≡ true → 1 ≤ spacingOf (taskAt t i) → Gathered t k (set ps n (partFor (taskAt t i))) (suc n) (suc i)
+  gathered-more : (ps : List Part) (n i : ℕ) → n < 16 → Gathered t k ps n i → isAbove t i k ≡ true → 1 ≤ spacingOf (taskAt t i)
+      → Gathered t k (set ps n (partFor (taskAt t i))) (suc n) (suc i)
   unfolding total
   gathered-more ps n i h g e s =
       let p = partFor (taskAt t i) in
@@ -66,7 +68,7 @@ module _ (t : Table) (k : ℕ) where
       one false = omega arith
 
   -- what the definition gathers, position by position
-  pub parts-gathered : judged t ≡ Accepted → (i : ℕ) → i ≤ t .count → Gathered t k (partsTo t k i) (countTo t k i) i
+  parts-gathered : judged t ≡ Accepted → (i : ℕ) → i ≤ t .count → Gathered t k (partsTo t k i) (countTo t k i) i
   unfolding partsTo total
   parts-gathered good zero h = gathered-none
   parts-gathered good (suc i) h = go (isAbove t i k) refl (parts-gathered good i (omega arith))
@@ -85,7 +87,7 @@ module _ (t : Table) (k : ℕ) where
       go (no q) = List·getD-eq-default (replicate 16 noPart) noPart {n = j} (omega arith)
 
   -- a place behind the parts holds none
-  pub parts-past : (i j : ℕ) → countTo t k i ≤ j → getD (partsTo t k i) j noPart ≡ noPart
+  parts-past : (i j : ℕ) → countTo t k i ≤ j → getD (partsTo t k i) j noPart ≡ noPart
   unfolding partsTo total
   parts-past zero j h = no-part j
   parts-past (suc i) j h = go (isAbove t i k) h (parts-past i j)
@@ -94,6 +96,20 @@ module _ (t : Table) (k : ℕ) where
           → getD (cond b (set (partsTo t k i) (countTo t k i) (partFor (taskAt t i))) (partsTo t k i)) j noPart ≡ noPart
       go true q f = getD-set-other (partsTo t k i) (countTo t k i) j (partFor (taskAt t i)) noPart (λ z. omega arith) ∙ f (omega arith)
       go false q f = f (omega arith)
+
+  -- the same of every load
+  pub load-past : (j : ℕ) → loadAt t k .count ≤ j → getD (loadAt t k .parts) j noPart ≡ noPart
+  unfolding loadAt
+  load-past j = go (ltb 16 (t .count)) (leb (t .count) k)
+    where
+      whole : Load
+      whole = record { own = costOf (taskAt t k); count = countTo t k (t .count); parts = partsTo t k (t .count) }
+
+      go : (a b : Bool) → cond a (emptyLoad 0) (cond b (emptyLoad 0) whole) .count ≤ j
+          → getD (cond a (emptyLoad 0) (cond b (emptyLoad 0) whole) .parts) j noPart ≡ noPart
+      go true b h = no-part j
+      go false true h = no-part j
+      go false false h = parts-past (t .count) j h
 
   -- the load of a task of an accepted table
   pub load-is : judged t ≡ Accepted → k < t .count → LoadOf t k (loadAt t k)
