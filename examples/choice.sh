@@ -1,8 +1,8 @@
 #!/bin/sh
 # choice.sh [FILE]: proves and builds the library for C and the program choice.c over it, and asks which task runs after the log of FILE, or of the example.
 set -eu
-here=$(cd "$(dirname "$0")/.." && pwd)
-input=$(readlink -f "${1:-$here/examples/line.bin}")
+here=$(dirname "$(dirname "$(readlink -f "$0")")")
+input=$(readlink -f -- "${1:-$here/examples/line.bin}")
 cd "$here"
 . tests/machine.sh
 compiler

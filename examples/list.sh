@@ -1,9 +1,9 @@
 #!/bin/sh
 # list.sh [FILE]: proves and builds the listing program, and lists FILE, or the example.
 set -eu
-here=$(cd "$(dirname "$0")/.." && pwd)
-input=$(readlink -f "${1:-$here/examples/line.bin}")
+here=$(dirname "$(dirname "$(readlink -f "$0")")")
+input=$(readlink -f -- "${1:-$here/examples/line.bin}")
 cd "$here"
 . tests/machine.sh
-rt check listing >&2
+program listing >&2
 $start target/bin/listing <"$input"

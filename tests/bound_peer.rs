@@ -1,4 +1,4 @@
-//! bound_peer STDIN STDOUT: every bound that the bound cases print, found again by trying each R from 1 to D.
+//! bound_peer STDIN STDOUT: every bound that the bound cases print, found again by trying each R from 1 to D; none is printed of a table that breaks the rules.
 use std::env;
 use std::fs;
 use std::process::exit;
@@ -11,6 +11,14 @@ struct Task {
 
 fn number(bytes: &[u8]) -> u64 {
     bytes.iter().rev().fold(0, |n, &b| n * 256 + u64::from(b))
+}
+
+fn is_table(bytes: &[u8]) -> bool {
+    let good = |r: &[u8]| {
+        let (c, d, t, m, k) = (number(&r[2..6]), number(&r[6..10]), number(&r[10..14]), r[14], r[15]);
+        r[..2] == [0x54, 0x4B] && 1 <= c && c <= d && d <= t && t <= 1_000_000 && k <= 64 && m < k && (m > 0 || k == 1)
+    };
+    bytes.len() % 16 == 0 && (16..=256).contains(&bytes.len()) && bytes.chunks(16).all(good)
 }
 
 fn tasks(table: &[u8]) -> Vec<Task> {
@@ -50,11 +58,13 @@ fn main() {
     let (mut at, mut bounds, mut wrong) = (0, 0, 0);
     for line in output.lines() {
         let size = number(&input[at..at + 2]) as usize;
-        let table = tasks(&input[at + 2..at + 2 + size]);
+        let bytes = &input[at + 2..at + 2 + size];
         at += 2 + size;
-        if line.starts_with("refused") {
+        if !is_table(bytes) {
+            wrong += usize::from(!line.starts_with("refused"));
             continue;
         }
+        let table = tasks(bytes);
         bounds += table.len();
         if !line.starts_with(&told(&table)) {
             println!("{line}\n  is not {}", told(&table));

@@ -3,15 +3,18 @@
 #   run      what starts an x86-64 program that is linked whole: nothing on such a machine, an emulator on another
 #   start    what starts a program as the toolchain links it
 # and `compiler` sets
-#   cc       what compiles C for x86-64
+#   cc       what compiles C for x86-64, and `client` the rig's client
 # All install what is missing.
+
+# packages WORDS..: apt-get, which waits for another that is at work
+packages() { apt-get -o DPkg::Lock::Timeout=300 "$@"; }
 
 # needs COMMAND PACKAGE..: installs the packages where the command is not there
 needs() {
     command -v "$1" >/dev/null 2>&1 && return 0
     wanted=$1
     shift
-    { apt-get install -y "$@" || { apt-get update && apt-get install -y "$@"; }; } >/dev/null 2>&1 && return 0
+    { packages install -y "$@" || { packages update && packages install -y "$@"; }; } >/dev/null 2>&1 && return 0
     echo "$wanted is not here, and $* could not be installed"
     return 1
 }
@@ -35,6 +38,15 @@ compiler() {
         cc=x86_64-linux-gnu-gcc
     fi
 }
+
+# program NAME: target/bin/NAME as the sources have it; rt asks whether they have changed, and not whether the program is still there
+program() {
+    { [ -x "target/bin/$1" ] && [ -f "target/obj/$1.o" ]; } || rm -f "target/stamp/$1"
+    rt check "$1"
+}
+
+# client WORDS..: the rig's client over the static library, by these words of the compiler
+client() { "$cc" -std=c99 -Wall -Wextra -Werror -O2 -I include "$@" tests/rig.c target/staticlib/librig.a -lpthread; }
 
 if [ "$(uname -m)" = x86_64 ]; then
     run='' start=''

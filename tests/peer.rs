@@ -6,7 +6,7 @@
 //   peer cases COUNT SEED RIG [LISTING]     the programs against its own answers
 //
 // RIG and LISTING are commands; the words of each are split at spaces. A difference is shown with the seed and the smallest case found that has it.
-use std::collections::BTreeMap;
+use std::collections::{BTreeMap, BTreeSet};
 use std::env;
 use std::fs;
 use std::io::{Read, Write};
@@ -984,8 +984,8 @@ fn fail(what: &str) -> ! {
     exit(2);
 }
 
-// What a program writes for its standard input.
-fn wrote(command: &str, input: &[u8]) -> Vec<u8> {
+// What a program writes for its standard input, and how it ended where that was not well.
+fn wrote(command: &str, input: &[u8]) -> (Vec<u8>, Option<String>) {
     let mut child = started(command).stdin(Stdio::piped()).stdout(Stdio::piped()).spawn().unwrap_or_else(|e| fail(&format!("{command}: {e}")));
     let mut pipe = child.stdin.take().unwrap();
     let mut out = Vec::new();
@@ -997,13 +997,26 @@ fn wrote(command: &str, input: &[u8]) -> Vec<u8> {
         child.stdout.take().unwrap().read_to_end(&mut out).unwrap_or_else(|e| fail(&format!("{command}: {e}")));
     });
     let status = child.wait().unwrap_or_else(|e| fail(&format!("{command}: {e}")));
-    if !status.success() {
-        out.extend_from_slice(format!("\nit ended with {status}").as_bytes());
-    }
-    out
+    (out, if status.success() { None } else { Some(status.to_string()) })
 }
 
-fn codes(command: &str, cases: &[Case]) -> Vec<String> {
+// One answer for each case. What is written behind the last answer, and an end that is not a good one, stand in the last answer, so that it differs.
+fn with_end(mut answers: Vec<Vec<u8>>, count: usize, more: &[u8], ended: Option<String>) -> Vec<Vec<u8>> {
+    answers.resize(count, b"no answer".to_vec());
+    if let Some(last) = answers.last_mut() {
+        if !more.is_empty() {
+            last.extend_from_slice(b"\nand behind the last answer:\n");
+            last.extend_from_slice(&more[..std::cmp::min(more.len(), 200)]);
+        }
+        if let Some(status) = ended {
+            last.extend_from_slice(format!("\nand it ended with {status}").as_bytes());
+        }
+    }
+    answers
+}
+
+// The rig's code of each case, a line each.
+fn codes(command: &str, cases: &[Case]) -> Vec<Vec<u8>> {
     let mut frames = Vec::new();
     for case in cases {
         frames.extend_from_slice(&(case.table.len() as u32).to_le_bytes());
@@ -1011,10 +1024,15 @@ fn codes(command: &str, cases: &[Case]) -> Vec<String> {
         frames.extend_from_slice(&case.table);
         frames.extend_from_slice(&case.log);
     }
-    let text = String::from_utf8_lossy(&wrote(command, &frames)).into_owned();
-    let mut lines: Vec<String> = text.lines().map(|line| line.to_string()).collect();
-    lines.resize(cases.len(), "no answer".to_string());
-    lines
+    let (all, ended) = wrote(command, &frames);
+    let out: Vec<Vec<u8>> = all.split_inclusive(|b| *b == b'\n').take(cases.len()).map(|line| line.to_vec()).collect();
+    let at = out.iter().map(|line| line.len()).sum();
+    with_end(out, cases.len(), &all[at..], ended)
+}
+
+// The peer's own line of a case.
+fn code_line(case: &Case) -> String {
+    format!("{}\n", rig(&case.table, &case.log, &mut Seen::new(false)))
 }
 
 // What the listing says of each case: every input and every text has four bytes of size before it.
@@ -1025,15 +1043,18 @@ fn texts(command: &str, cases: &[Case]) -> Vec<Vec<u8>> {
         frames.extend_from_slice(&(input.len() as u32).to_le_bytes());
         frames.extend_from_slice(&input);
     }
-    let all = wrote(command, &frames);
+    let (all, ended) = wrote(command, &frames);
     let (mut at, mut out) = (0, Vec::new());
     while all.len() >= at + 4 && out.len() < cases.len() {
-        let end = std::cmp::min(all.len(), at + 4 + number(&all[at..at + 4]) as usize);
+        let end = at + 4 + number(&all[at..at + 4]) as usize;
+        if all.len() < end {
+            // a text that is cut is no answer
+            break;
+        }
         out.push(all[at + 4..end].to_vec());
         at = end;
     }
-    out.resize(cases.len(), b"no answer".to_vec());
-    out
+    with_end(out, cases.len(), &all[at..], ended)
 }
 
 // ---- differences
@@ -1098,7 +1119,8 @@ fn smallest(first: &Case, differs: Differs) -> Case {
 
 fn describe(case: &Case) {
     let mut quiet = Seen::new(false);
-    println!("  n {}, {} table bytes, {} log bytes{}", case.n, case.table.len(), case.log.len(), if case.nothing { ", and no input for the listing" } else { "" });
+    let nothing = if case.nothing { ", and no input for the listing" } else { "" };
+    println!("  n {}, {} table bytes, {} log bytes{nothing}", case.n, case.table.len(), case.log.len());
     match read_table(&case.table, &mut quiet) {
         Ok(tasks) => tasks.iter().for_each(|t| println!("  task ({},{},{},({},{}))", t.c, t.d, t.t, t.m, t.k)),
         Err((number, position)) => println!("  the table is refused {number} at {position}"),
@@ -1123,10 +1145,7 @@ fn report(what: &str, case: &Case, differs: Differs, answers: &dyn Fn(&Case) -> 
 // ---- the two ways to run
 
 fn rig_differs<'a>(command: &'a str) -> impl Fn(&[Case]) -> Vec<bool> + 'a {
-    move |cases: &[Case]| {
-        let mut quiet = Seen::new(false);
-        codes(command, cases).iter().zip(cases).map(|(said, case)| *said != rig(&case.table, &case.log, &mut quiet).to_string()).collect()
-    }
+    move |cases: &[Case]| codes(command, cases).iter().zip(cases).map(|(said, case)| *said != code_line(case).as_bytes()).collect()
 }
 
 fn listing_differs<'a>(command: &'a str) -> impl Fn(&[Case]) -> Vec<bool> + 'a {
@@ -1161,7 +1180,7 @@ fn compare(count: usize, seed: u64, rig_command: &str, listing_command: Option<&
         let differs = rig_differs(rig_command);
         if let Some(i) = differs(&cases).iter().position(|d| *d) {
             println!("seed {seed}, case {}", done + i);
-            let answers = |case: &Case| (codes(rig_command, std::slice::from_ref(case))[0].clone(), rig(&case.table, &case.log, &mut Seen::new(false)).to_string());
+            let answers = |case: &Case| (String::from_utf8_lossy(&codes(rig_command, std::slice::from_ref(case))[0]).into_owned(), code_line(case));
             report("the rig", &cases[i], &differs, &answers);
             return false;
         }
@@ -1184,31 +1203,63 @@ fn compare(count: usize, seed: u64, rig_command: &str, listing_command: Option<&
     missing.is_empty()
 }
 
+// The files of a folder.
+fn names(folder: &str) -> BTreeSet<String> {
+    let all = fs::read_dir(folder).unwrap_or_else(|e| fail(&format!("{folder}: {e}")));
+    all.map(|one| one.unwrap_or_else(|e| fail(&format!("{folder}: {e}"))).file_name().to_string_lossy().into_owned()).collect()
+}
+
+// Every file of a folder has been looked at, and there were more than the list of its cases.
+fn all_looked_at(folder: &str, looked_at: &BTreeSet<String>) -> bool {
+    let there = names(folder);
+    there.difference(looked_at).for_each(|name| println!("{folder}/{name} is of no case"));
+    there == *looked_at && there.len() > 1
+}
+
+// The lines of a folder's list of cases: a number, and what stands behind it.
+fn cases_of(folder: &str, list: &str) -> Vec<(String, String)> {
+    let text = String::from_utf8_lossy(&bytes_of(folder, list)).into_owned();
+    let lines = text.lines().map(|line| line.split_once(' ').unwrap_or_else(|| fail(&format!("{folder}/{list}: {line}"))));
+    lines.map(|(number, rest)| (number.to_string(), rest.to_string())).collect()
+}
+
+fn listing_vectors(folder: &str) -> (usize, bool) {
+    let (mut good, mut looked_at) = (true, BTreeSet::from(["names.txt".to_string()]));
+    let cases = cases_of(folder, "names.txt");
+    for (case, name) in &cases {
+        let (input, text) = (format!("{case}.in"), format!("{case}.out"));
+        if listing(&bytes_of(folder, &input), &mut Seen::new(false)).as_bytes() != bytes_of(folder, &text) {
+            good = false;
+            println!("{folder}/{case}, {name}, differs");
+        }
+        looked_at.extend([input, text]);
+    }
+    (cases.len(), all_looked_at(folder, &looked_at) && good)
+}
+
+fn rig_vectors(folder: &str) -> (usize, bool) {
+    let (mut good, mut looked_at) = (true, BTreeSet::from(["expected.txt".to_string()]));
+    let cases = cases_of(folder, "expected.txt");
+    for (case, code) in &cases {
+        let (table, log) = (format!("{case}.table"), format!("{case}.log"));
+        if rig(&bytes_of(folder, &table), &bytes_of(folder, &log), &mut Seen::new(false)).to_string() != *code {
+            good = false;
+            println!("{folder}/{case} differs");
+        }
+        looked_at.extend([table, log]);
+    }
+    (cases.len(), all_looked_at(folder, &looked_at) && good)
+}
+
+fn bytes_of(folder: &str, name: &str) -> Vec<u8> {
+    fs::read(format!("{folder}/{name}")).unwrap_or_else(|e| fail(&format!("{folder}/{name}: {e}")))
+}
+
 fn vectors(folder: &str) -> bool {
-    let read = |name: &str| fs::read(format!("{folder}/{name}")).unwrap_or_else(|e| fail(&format!("{name}: {e}")));
-    let mut quiet = Seen::new(false);
-    let (mut count, mut wrong) = (0, 0);
-    for i in 0.. {
-        if fs::metadata(format!("{folder}/listing/{i:04}.in")).is_err() {
-            break;
-        }
-        count += 1;
-        if listing(&read(&format!("listing/{i:04}.in")), &mut quiet).as_bytes() != read(&format!("listing/{i:04}.out")) {
-            wrong += 1;
-            println!("listing/{i:04} differs");
-        }
-    }
-    let expected = String::from_utf8_lossy(&read("rig/expected.txt")).into_owned();
-    for line in expected.lines() {
-        let (name, code) = line.split_once(' ').unwrap_or_else(|| fail("rig/expected.txt"));
-        count += 1;
-        if rig(&read(&format!("rig/{name}.table")), &read(&format!("rig/{name}.log")), &mut quiet).to_string() != code {
-            wrong += 1;
-            println!("rig/{name} differs");
-        }
-    }
-    println!("{count} stored cases, {wrong} differ");
-    wrong == 0 && count > 0
+    let (listings, listings_good) = listing_vectors(&format!("{folder}/listing"));
+    let (codes, codes_good) = rig_vectors(&format!("{folder}/rig"));
+    println!("{listings} stored listings and {codes} stored codes{}", if listings_good && codes_good { "" } else { ", not all as the peer has them" });
+    listings_good && codes_good
 }
 
 fn main() {

@@ -2,10 +2,11 @@
  * their codes, a line each. A case there is two sizes of 4 bytes, little-endian, then the table's bytes, then the log's.
  *
  * Each slice is lent twice: with a page behind its last byte that may not be read, and with one before its first. Nothing may be written. So one
- * byte read outside, or one byte written, ends the run. */
+ * byte read outside, or one byte written, ends the run. Beside that, slices are lent at every alignment, overlapping, and with sizes past 32 bits. */
 #define _GNU_SOURCE
 #include "brumerola.h"
 
+#include <dirent.h>
 #include <pthread.h>
 #include <signal.h>
 #include <stdio.h>
@@ -204,6 +205,83 @@ static void long_logs(void) {
     logged.size = 65536, is("65,536 bytes and no table", 32 + 1);
 }
 
+/* Bytes at an offset from the start of a room, which is one of a page. */
+static const uint8_t *lent_at(int room, size_t offset, const uint8_t *from, size_t size) {
+    open_rooms(PROT_READ | PROT_WRITE);
+    memcpy(rooms[room] + offset, from, size);
+    open_rooms(PROT_READ);
+    return rooms[room] + offset;
+}
+
+/* Every alignment of the table with every alignment of the log. */
+static void alignments(void) {
+    size_t i, j;
+    begin(), release(0, 0), release(1, 0), complete(0, 1, 2);
+    for (i = 0; i < 16; i++)
+        for (j = 0; j < 16; j++) {
+            const uint8_t *a = lent_at(0, i, table.at, table.size), *b = lent_at(1, j, logged.at, logged.size);
+            expect("table and log at any address", brumerola_choice(a, table.size, b, logged.size), 1);
+        }
+}
+
+/* A table of one record and a log of two, from any two places of some bytes, as they stand there and apart. Both good once, by their number. */
+static void any_two_places(const char *name, const struct bytes *all, size_t table_at, size_t log_at) {
+    uint32_t apart[20][20];
+    size_t i, x, y;
+    for (x = 0; x < 20; x++)
+        for (y = 0; y < 20; y++) apart[x][y] = code_of(all->at + x, 16, all->at + y, 40);
+    expect(name, apart[table_at][log_at], 0);
+    for (i = 0; i < 16; i++) {
+        const uint8_t *from = lent_at(0, i, all->at, all->size);
+        for (x = 0; x < 20; x++)
+            for (y = 0; y < 20; y++) expect(name, brumerola_choice(from + x, 16, from + y, 40), apart[x][y]);
+    }
+}
+
+/* A completion whose job and time hold a table's record, or a table's record whose C begins a completion; it is refused, and a release follows. */
+static void overlaps(void) {
+    begin(), table.size = 0, task(1, 2, 3, 1, 2);
+    put(&logged, 0x00025645, 4);
+    memcpy(logged.at + logged.size, table.at, 16), logged.size += 16;
+    release(0, 0), put(&logged, 0, 20);
+    any_two_places("a table within its log", &logged, 4, 0);
+    begin(), table.size = 0, task(0x00025645, 0x00025646, 200000, 1, 2), put(&table, 0, 6);
+    release(0, 1000);
+    memcpy(table.at + table.size, logged.at, 20), table.size += 20;
+    put(&table, 0, 18);
+    any_two_places("a log that begins in its table", &table, 0, 2);
+}
+
+/* Sizes that are others in 8, 16 or 32 bits. Past 32 bits no byte is looked at but those of the front, which would be good alone. */
+static void large_sizes(void) {
+    static const size_t past[] = {0, 16, 20, 32, 40, 256, 65536};
+    const size_t large = (size_t)1 << 32, front = (size_t)1 << 16;
+    uint8_t *reserved[2];
+    size_t i;
+    begin(), table.size = 0;
+    while (table.size < 4112) task(1, 1, 1, 0, 1);
+    is("257 records", 32 + 1);
+    while (table.size < 65552) task(1, 1, 1, 0, 1);
+    is("65,552 bytes of table", 32 + 1);
+    begin(), release(0, 0), release(1, 0);
+    for (i = 0; i < 2; i++) {
+        reserved[i] = mmap(NULL, large + 2 * front, PROT_NONE, MAP_PRIVATE | MAP_ANONYMOUS | MAP_NORESERVE, -1, 0);
+        if (reserved[i] == MAP_FAILED || mprotect(reserved[i], front, PROT_READ | PROT_WRITE) != 0) die("no room for large sizes");
+    }
+    memcpy(reserved[0], table.at, table.size);
+    memcpy(reserved[1], logged.at, logged.size);
+    for (i = 0; i < sizeof past / sizeof *past; i++) {
+        size_t size = large + past[i];
+        expect("a table past 32 bits", brumerola_choice(reserved[0], size, logged.at, logged.size), 32 + 1);
+        expect("a table past 32 bits, and no log", brumerola_choice(reserved[0], size, NULL, 0), 32 + 1);
+        expect("a log past 32 bits", brumerola_choice(table.at, table.size, reserved[1], size), 64);
+        expect("a log past 32 bits, and no table", brumerola_choice(NULL, 0, reserved[1], size), 64);
+        expect("both past 32 bits", brumerola_choice(reserved[0], size, reserved[1], size), 64);
+    }
+    expect("a log too long, and neither may be read", brumerola_choice(reserved[0] + front, 32, reserved[1] + front, 65537), 64);
+    for (i = 0; i < 2; i++) munmap(reserved[i], large + 2 * front);
+}
+
 /* Where a size is 0 the pointer may be anything. */
 static void no_pointers(void) {
     begin();
@@ -258,6 +336,16 @@ static void load(struct bytes *to, const char *folder, const char *number, const
     if (fclose(file) != 0 || to->size == sizeof to->at) die(name);
 }
 
+static unsigned files_in(const char *folder) {
+    unsigned count = 0;
+    struct dirent *one;
+    DIR *all = opendir(folder);
+    if (all == NULL) die(folder);
+    while ((one = readdir(all)) != NULL) count += one->d_name[0] != '.';
+    closedir(all);
+    return count;
+}
+
 static void folder_cases(const char *folder) {
     char name[4096], number[32];
     unsigned right, before = ran;
@@ -270,8 +358,9 @@ static void folder_cases(const char *folder) {
         load(&logged, folder, number, "log");
         is(number, right);
     }
-    fclose(file);
-    if (ran == before) die("the folder has no cases");
+    if (!feof(file) || fclose(file) != 0) die(name);
+    /* two files for each case, beside the list */
+    if (ran == before || files_in(folder) != 2 * (ran - before) + 1) die("the folder has other files than those of its cases");
 }
 
 /* ---- cases from standard input */
@@ -304,6 +393,9 @@ int main(int count, char **words) {
     bad_records();
     refused_events();
     long_logs();
+    alignments();
+    overlaps();
+    large_sizes();
     no_pointers();
     small_stack();
     guarded(0);

@@ -21,7 +21,7 @@ def values():
                         said = "written"
                         out[:20] = record(kind, task, job, LIMIT)
                     yield "value %d %d %d %d %d" % (kind, task, job, room, number)
-                    yield "%s sum %d" % (said, sum(out))
+                    yield " ".join([said, *map(str, out)])
 
 
 store(sys.argv[1], [], values())

@@ -5,12 +5,9 @@ use tables::Table;
 use tables::Task;
 ghost use mathlib.Core.Path.{_≡_};
 ghost use Prim.Native.Nat.{_<_};
-ghost use lib.ListN.{replicate};
-ghost use Rattle.tables.specs.declared.Answer.the-variants.{Accepted};
-ghost use Rattle.tables.specs.Judging.{judged};
 ghost use Rattle.demands.specs.Above.{isAbove};
 ghost use Rattle.demands.specs.Demand.{costOf, spacingOf};
-ghost use Rattle.demands.specs.Load.{noPart, LoadOf};
+ghost use Rattle.demands.specs.Load.{partFor, emptyLoad, loadAt};
 
 fn cost(task: Task) -> u32
     ensures { λ r. ⌜ r ≡ costOf task ⌝ }
@@ -41,7 +38,7 @@ fn is_above(table: Table, i: usize, k: usize) -> bool
 }
 
 fn part(task: Task) -> Part
-    ensures { λ r. ⌜ r ≡ record { cost = costOf task; spacing = spacingOf task } ⌝ }
+    ensures { λ r. ⌜ r ≡ partFor task ⌝ }
 {
     let cost = cost(task);
     let spacing = spacing(task);
@@ -51,8 +48,8 @@ fn part(task: Task) -> Part
     }
 }
 
-fn no_load(own: u32) -> Load
-    ensures { λ r. ⌜ r ≡ record { own = own; count = 0; parts = replicate 16 noPart } ⌝ }
+fn empty(own: u32) -> Load
+    ensures { λ r. ⌜ r ≡ emptyLoad own ⌝ }
 {
     let none = Part {
         cost: 0,
@@ -66,13 +63,19 @@ fn no_load(own: u32) -> Load
     }
 }
 
+// All zeros where the table has over 16 tasks, or no task at k.
 pub fn load_of(table: Table, k: usize) -> Load
-    requires { ⌜ (judged table ≡ Accepted) × (k < table .count) ⌝ }
-    ensures { λ r. ⌜ LoadOf table k r ⌝ }
+    ensures { λ r. ⌜ r ≡ loadAt table k ⌝ }
 {
     let count = table.count;
+    if 16 < count {
+        return empty(0);
+    }
+    if count <= k {
+        return empty(0);
+    }
     let own = cost(table.tasks[k]);
-    let mut load = no_load(own);
+    let mut load = empty(own);
     let mut n: usize = 0;
     let mut i: usize = 0;
     while i < count {

@@ -1,4 +1,9 @@
 // The two engines side by side: the first difference, or how many events came out the same, and how often each answer came.
+mod dice;
+mod events_of;
+mod runs;
+mod same;
+
 use libc::STDOUT_FILENO;
 
 fn text(words: &[u8]) {
@@ -35,7 +40,7 @@ fn lines(seen: [u64; 18]) {
 }
 
 fn main() {
-    let walk = side_by_side::runs::all();
+    let walk = runs::all();
     if walk.same {
         number(b"", walk.events);
         text(b" events, same answers and states\n");

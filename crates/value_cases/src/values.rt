@@ -5,7 +5,6 @@ use crate::print::text;
 use crate::print::wide;
 use event_writing::Writing;
 use events::Event;
-use std::num::wrapping_add_u64;
 
 const KINDS: [u8; 5] = [0, 1, 2, 3, 255];
 
@@ -15,14 +14,12 @@ const JOBS: [u64; 3] = [0, 1, 18446744073709551615];
 
 const ROOMS: [usize; 4] = [0, 19, 20, 24];
 
-fn sum(bytes: &[u8]) -> u64 {
-    let mut total: u64 = 0;
+fn bytes(all: &[u8]) {
     let mut i: usize = 0;
-    while i < bytes.len() {
-        total = wrapping_add_u64(total, wide(bytes[i]));
+    while i < all.len() {
+        number(b" ", wide(all[i]));
         i += 1;
     }
-    total
 }
 
 // Writes to the first bytes of a slice; 0 where it has not so many.
@@ -33,13 +30,13 @@ fn write_to(event: Event, out: &mut [u8], room: usize) -> Writing {
     event_writing::write(event, &mut out[..room])
 }
 
-// What writing says, and the sum of all bytes afterwards.
+// What writing says, and every byte afterwards.
 fn written(event: Event, out: &mut [u8], room: usize) {
     match write_to(event, out, room) {
         Writing::Whole => text(b"written"),
         Writing::Refused(n) => number(b"refused ", wide(n)),
     }
-    number(b" sum ", sum(out));
+    bytes(out);
     text(b"\n");
 }
 

@@ -1,65 +1,79 @@
--- `above::load_of` meets its contract: before each turn the parts gathered are those of the tasks above among the positions passed.
+-- `above::load_of` meets its contract: a turn of the loop is a clause of the definition, and n never passes the places.
 use Prim.Native.Nat.{_-_, _≤_}
-use mathlib.Core.Path.{_≡_, sym, _∙_}
+use mathlib.Core.Path.{_≡_, refl, sym, _∙_}
 use mathlib.Core.Logic.{⊎-elim}
 use native.Mathlib.Numerals.{add-one}
 use native.Mathlib.Omega.{arith}
 use borrow.Author.Needs.{needs}
-use Rattle.demands.specs.Above.{taskAt}
-use Rattle.demands.specs.Demand.{costOf}
-use Rattle.demands.proofs.Gathering.{Gathered, gathered-none, gathered-skip, gathered-more, gathered-all}
-use Rattle.demands.proofs.Obeyed.{few, spacing-some}
+use borrow.Author.Tests.{lt-ltb, le-ltb, le-leb, lt-leb}
+use Rattle.laws.specs.Sums.{total}
+use Rattle.demands.specs.Load.{partsTo, loadAt}
+use Rattle.demands.proofs.Gathering.{Loaded, count-few, loaded-skip, loaded-more, loaded-all}
 use Rattle.demands.proofs.above.load_of.Statement.{statement}
 use Rattle.demands.proofs.above.load_of.Tie as tie
 
 abbrev Inv-loop : tie.InvT-loop
-Inv-loop k table count own load₀ n₀ i₀ load n i =
-    (i ≤ count) × ((n ≤ i) × ((load .own ≡ costOf (taskAt table k)) × Gathered table k (load .parts) n i))
+Inv-loop k table count own load₀ n₀ i₀ load n i = (i ≤ count) × Loaded table k load n i
 
 abbrev μ-loop : tie.MeasureT-loop
 μ-loop k table count own load₀ n₀ i₀ load n i = count - i
 
+empty-requires : tie.Need-empty-requires Inv-loop μ-loop
+empty-requires c κs = search needs
+
+returns : tie.Need-returns Inv-loop μ-loop
+unfolding loadAt
+returns c = rw (lt-ltb _ _ (c .before .if1 .taken)) (c .empty .ensures)
+
+empty-requires-2 : tie.Need-empty-requires-2 Inv-loop μ-loop
+empty-requires-2 c κs = search needs
+
+returns-2 : tie.Need-returns-2 Inv-loop μ-loop
+unfolding loadAt
+returns-2 c = rw (le-ltb _ _ (c .before .before .if1 .left), le-leb _ _ (c .before .if2 .taken)) (c .empty2 .ensures)
+
 mul-cost : tie.Need-mul-cost Inv-loop μ-loop
-mul-cost c = omega (arith, few (c .args .t1) (c .pre .0))
+mul-cost c = search needs
 
 element-copy-out-cost : tie.Need-element-copy-out-cost Inv-loop μ-loop
-element-copy-out-cost c = omega (arith, few (c .args .t1) (c .pre .0), c .pre .1)
+element-copy-out-cost c = search needs
 
 cost-requires : tie.Need-cost-requires Inv-loop μ-loop
 cost-requires c κs = search needs
 
-no-load-requires : tie.Need-no-load-requires Inv-loop μ-loop
-no-load-requires c κs = search needs
+empty-requires-3 : tie.Need-empty-requires-3 Inv-loop μ-loop
+empty-requires-3 c κs = search needs
 
 loop-holds : tie.Need-loop-holds Inv-loop μ-loop
-loop-holds c =
-    let s = c .before .before .before in
-    rw (c .no-load .ensures) (omega arith, (omega arith, (c .before .cost .ensures, gathered-none (s .args .t1) (s .args .k))))
+unfolding partsTo total
+loop-holds c = (omega arith, record { count = refl; load = rw (sym (c .before .cost .ensures)) (c .empty3 .ensures) })
 
--- the count is within the places
-within : (c : tie.In-loop Inv-loop μ-loop) → c .before .before .before .before .before .args .t1 .count ≤ 16
-within c = let s = c .before .before .before .before .before in few (s .args .t1) (s .pre .0)
+-- fewer parts than positions passed
+below : (c : tie.In-loop Inv-loop μ-loop) → c .before .loop .n ≤ c .before .loop .i
+below c =
+    let s = c .before .before .before .before .before .before .before in
+    rw (c .before .loop .inv .1 .count) (count-few (s .args .t1) (s .args .k) (c .before .loop .i))
 
 is-above-requires : tie.Need-is-above-requires Inv-loop μ-loop
-is-above-requires c κs = omega (arith, within c, c .before .before .before .before .before .pre .1)
+is-above-requires c κs = omega arith
 
 mul-part : tie.Need-mul-part Inv-loop μ-loop
-mul-part c = omega (arith, within (c .before .before))
+mul-part c = omega arith
 
 element-copy-out-part : tie.Need-element-copy-out-part Inv-loop μ-loop
-element-copy-out-part c = omega (arith, within (c .before .before))
+element-copy-out-part c = omega arith
 
 part-requires : tie.Need-part-requires Inv-loop μ-loop
 part-requires c κs = search needs
 
-mul-t22 : tie.Need-mul-t22 Inv-loop μ-loop
-mul-t22 c = omega (arith, within (c .before .before .before .before), c .before .before .before .before .before .loop .inv)
+mul-t23 : tie.Need-mul-t23 Inv-loop μ-loop
+mul-t23 c = omega (arith, below (c .before .before .before .before))
 
 element-set-from-load : tie.Need-element-set-from-load Inv-loop μ-loop
-element-set-from-load c = omega (arith, within (c .before .before .before .before), c .before .before .before .before .before .loop .inv)
+element-set-from-load c = omega (arith, below (c .before .before .before .before))
 
 add-n : tie.Need-add-n Inv-loop μ-loop
-add-n c = omega (arith, within (c .before .before .before .before), c .before .before .before .before .before .loop .inv)
+add-n c = omega (arith, below (c .before .before .before .before))
 
 add-i : tie.Need-add-i Inv-loop μ-loop
 add-i c = omega arith
@@ -70,44 +84,23 @@ loop-less c = omega arith
 loop-again : tie.Need-loop-again Inv-loop μ-loop
 loop-again c =
     let l = c .before .before .before .loop in
-    let s = c .before .before .before .before .before .before .before in
+    let s = c .before .before .before .before .before .before .before .before .before in
     let t = s .args .t1 in
     let k = s .args .k in
-    let a = sym (c .before .is-above .ensures) in
-    let q = c .before .before .loop-test .taken in
-    let m = few t (s .pre .0) in
-    ⊎-elim
-    (λ w. (
+    let a = sym (c .before .is-above .ensures) in (
       omega arith,
-      (
-        omega (arith, w .4),
-        (
-          rw (w .3) (l .inv .1 .1 .0),
-          rw (w .3, w .4, w .2 .ensures, add-one (l .n), add-one (l .i))
-              (gathered-more t k (l .load .parts) (l .n) (l .i) (omega arith) (l .inv .1 .1 .1) (a ∙ w .0 .taken) (spacing-some t (s .pre .0) (l .i) q)),
-        ),
-      ),
-    ))
-    (λ w. (
-      omega arith,
-      (
-        omega (arith, w .2),
-        (
-          rw (w .1) (l .inv .1 .1 .0),
-          rw (w .1, w .2, add-one (l .i)) (gathered-skip t k (l .load .parts) (l .n) (l .i) (l .inv .1 .1 .1) (a ∙ w .0 .left)),
-        ),
-      ),
-    ))
-    (c .if1 .came)
+      ⊎-elim
+          (λ w. rw (w .3, w .4, w .2 .ensures, add-one (l .i)) (loaded-more t k (l .load) (l .n) (l .i) (l .inv .1) (a ∙ w .0 .taken)))
+          (λ w. rw (w .1, w .2, add-one (l .i)) (loaded-skip t k (l .load) (l .n) (l .i) (l .inv .1) (a ∙ w .0 .left)))
+          (c .if3 .came),
+    )
 
-returns : tie.Need-returns Inv-loop μ-loop
-returns c =
+returns-3 : tie.Need-returns-3 Inv-loop μ-loop
+returns-3 c =
     let l = c .before .loop in
-    let s = c .before .before .before .before .before in
-    let t = s .args .t1 in
-    let e : l .i ≡ t .count = omega arith in
-    gathered-all t (s .args .k) (s .pre .0) (s .pre .1) (l .load .own) (l .n) (l .load .parts) (l .inv .1 .1 .0)
-    (omega (arith, few t (s .pre .0))) (rw e at (l .inv .1 .1 .1))
+    let s = c .before .before .before .before .before .before .before in
+    let e : l .i ≡ s .args .t1 .count = omega arith in
+    loaded-all (s .args .t1) (s .args .k) (l .load) (l .n) (omega arith) (omega arith) (rw e at (l .inv .1))
 
 pub load-of-spec : {M : Type 1} → statement M
 load-of-spec =
@@ -115,19 +108,23 @@ load-of-spec =
     (tie.spec
     Inv-loop
     μ-loop
+    empty-requires
+    returns
+    empty-requires-2
+    returns-2
     mul-cost
     element-copy-out-cost
     cost-requires
-    no-load-requires
+    empty-requires-3
     loop-holds
     is-above-requires
     mul-part
     element-copy-out-part
     part-requires
-    mul-t22
+    mul-t23
     element-set-from-load
     add-n
     add-i
     loop-less
     loop-again
-    returns)
+    returns-3)

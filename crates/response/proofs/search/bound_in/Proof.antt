@@ -3,10 +3,10 @@ use mathlib.Core.Path.{_∙_}
 use native.Mathlib.Omega.{arith}
 use borrow.Author.Needs.{needs}
 use Rattle.demands.specs.Demand.{demand}
-use Rattle.demands.specs.Load.{loadDemand}
+use Rattle.demands.specs.Load.{LoadOf, loadDemand}
 use Rattle.demands.specs.Above.{taskAt}
 use Rattle.response.proofs.Fits.{fit-same}
-use Rattle.demands.proofs.Gathering.{load-same}
+use Rattle.demands.proofs.Gathering.{load-is, load-same}
 use Rattle.demands.proofs.Obeyed.{few, deadline-most}
 use Rattle.response.proofs.search.bound_in.Statement.{statement}
 use Rattle.response.proofs.search.bound_in.Tie as tie
@@ -23,14 +23,18 @@ element-copy-out-task c = let s = c .before in omega (arith, few (s .args .t1) (
 search-requires : tie.Need-search-requires
 search-requires c κs =
     let s = c .before .before in
-    (c .before .load-of .ensures .ready, deadline-most (s .args .t1) (s .pre .0) (s .args .k) (s .pre .1))
+    let t = s .args .t1 in
+    let k = s .args .k in
+    (rw (c .before .load-of .ensures) (load-is t k (s .pre .0) (s .pre .1) .ready), deadline-most t (s .pre .0) k (s .pre .1))
 
 returns : tie.Need-returns
 returns c =
-    let a = c .before .before .before .args in
+    let s = c .before .before .before in
+    let t = s .args .t1 in
+    let k = s .args .k in
     let l = c .before .before .load-of in
-    c .search .ensures
-    ∙ fit-same (loadDemand (l .result)) (demand (a .t1) (a .k)) (load-same (a .t1) (a .k) (l .result) (l .ensures)) (taskAt (a .t1) (a .k) .d)
+    let y : LoadOf t k (l .result) = rw (l .ensures) (load-is t k (s .pre .0) (s .pre .1)) in
+    c .search .ensures ∙ fit-same (loadDemand (l .result)) (demand t k) (load-same t k (l .result) y) (taskAt t k .d)
 
 pub bound-in-spec : {M : Type 1} → statement M
 bound-in-spec =

@@ -1,4 +1,4 @@
--- `log_cases::values::each` is safe and ends: 180 turns.
+-- `values::each` is safe and ends: 180 turns.
 use Prim.Native.Nat.{_-_, _≤_}
 use borrow.Author.Needs.{needs}
 use Rattle.value_cases.proofs.values.each.Statement.{statement}

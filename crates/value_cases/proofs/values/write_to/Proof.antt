@@ -1,4 +1,4 @@
--- `log_cases::values::write_to` is safe: the part that is lent has as many bytes as there is room.
+-- `values::write_to` is safe: the part that is lent has as many bytes as there is room.
 use native.Mathlib.Omega.{arith}
 use borrow.Author.Needs.{needs}
 use lib.ListN.{length-take}

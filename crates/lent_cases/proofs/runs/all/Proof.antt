@@ -1,8 +1,8 @@
 -- `runs::all` is safe and ends: n stays within the events.
 use Prim.Native.Nat.{_-_, _≤_}
 use borrow.Author.Needs.{needs}
-use Rattle.side_by_side.proofs.runs.all.Statement.{statement}
-use Rattle.side_by_side.proofs.runs.all.Tie as tie
+use Rattle.lent_cases.proofs.runs.all.Statement.{statement}
+use Rattle.lent_cases.proofs.runs.all.Tie as tie
 
 abbrev Inv-loop : tie.InvT-loop
 Inv-loop walk₀ n₀ walk n = n ≤ 100000

@@ -1,12 +1,12 @@
 // 50 tables and 2,000 events on each; now and then a state that is not sound is asked instead of the one that stands.
-use super::same::both;
+use crate::dice::next;
+use crate::dice::pick;
+use crate::events_of::event;
+use crate::events_of::table;
+use crate::same::both;
 use effects::Answer;
 use engine::apply::apply;
 use in_place::apply::apply_of;
-use made_up::dice::next;
-use made_up::dice::pick;
-use made_up::events_of::event;
-use made_up::events_of::table;
 use states::State;
 use states::fresh::start;
 ghost use Prim.Native.Nat.{_<_};

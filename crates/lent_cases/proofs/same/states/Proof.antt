@@ -1,8 +1,8 @@
 -- `same::states` is safe and ends: i stays within the places.
 use Prim.Native.Nat.{_-_, _≤_}
 use borrow.Author.Needs.{needs}
-use Rattle.side_by_side.proofs.same.states.Statement.{statement}
-use Rattle.side_by_side.proofs.same.states.Tie as tie
+use Rattle.lent_cases.proofs.same.states.Statement.{statement}
+use Rattle.lent_cases.proofs.same.states.Tie as tie
 
 abbrev Inv-loop : tie.InvT-loop
 Inv-loop a b i₀ i = i ≤ 16

@@ -1,8 +1,8 @@
 -- `events_of::table` is safe and ends: i stays within the places.
 use Prim.Native.Nat.{_-_, _≤_}
 use borrow.Author.Needs.{needs}
-use Rattle.made_up.proofs.events_of.table.Statement.{statement}
-use Rattle.made_up.proofs.events_of.table.Tie as tie
+use Rattle.lent_cases.proofs.events_of.table.Statement.{statement}
+use Rattle.lent_cases.proofs.events_of.table.Tie as tie
 
 abbrev Inv-loop : tie.InvT-loop
 Inv-loop seed count tasks₀ x₀ i₀ tasks x i = i ≤ 16

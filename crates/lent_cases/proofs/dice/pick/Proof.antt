@@ -1,8 +1,8 @@
 -- `dice::pick` meets its contract: a remainder is below what it is taken by.
 use native.Mathlib.Nat.{mod-lt}
 use borrow.Author.Needs.{needs}
-use Rattle.made_up.proofs.dice.pick.Statement.{statement}
-use Rattle.made_up.proofs.dice.pick.Tie as tie
+use Rattle.lent_cases.proofs.dice.pick.Statement.{statement}
+use Rattle.lent_cases.proofs.dice.pick.Tie as tie
 
 rem-result : tie.Need-rem-result
 rem-result c = search needs

@@ -1,6 +1,6 @@
 // Tables of small times and events near the clock, so that every refusal, expiry and completion comes up.
-use super::dice::next;
-use super::dice::pick;
+use crate::dice::next;
+use crate::dice::pick;
 use events::Event;
 use states::State;
 use tables::Table;
