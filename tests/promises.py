@@ -49,7 +49,7 @@ names = crates | set(declared) | set(functions) | set().union(*declared.values()
 
 WORDS = {"&", "-", "let", "loop", "requires", "specs", "proofs", "must-fail", "pub", "es", "i"}
 # words of the language and of its prover that the other two documents name
-OTHERS = {"i32", "u64", "count_ones", "take", "out", "Read", "alloc1", "t-K"}
+OTHERS = {"i32", "u64", "count_ones", "take", "out", "Read", "alloc1", "t-K", "io", "read_full"}
 
 
 def stands(path):
