@@ -16,13 +16,13 @@ use Rattle.lent_rig.proofs.run_in.Statement.{statement}
 use Rattle.lent_rig.proofs.run_in.Tie as tie
 
 abbrev Inv-loop : tie.InvT-loop
-Inv-loop log said₀ state₀ from₀ said state from = Going ranOver (begun state₀) log (record { answer = said; state = state }) from
+Inv-loop log said₀ state₀ from₀ said state from = Going ranOver (begun state₀) log 0 (record { answer = said; state = state }) from
 
 abbrev μ-loop : tie.MeasureT-loop
 μ-loop log said₀ state₀ from₀ said state from = length log - from
 
 loop-holds : tie.Need-loop-holds Inv-loop μ-loop
-loop-holds c = let a = c .before .args in going-none ranOver (begun (a .first)) (a .log .now)
+loop-holds c = let a = c .before .args in going-none ranOver (begun (a .first)) (a .log .now) 0 (omega arith)
 
 sub-read : tie.Need-sub-read Inv-loop μ-loop
 sub-read c = c .loop .inv .within
@@ -48,7 +48,7 @@ returns c =
     let e = c .before .read .ensures ∙ ap readRecord (tail-is s (l .loop .from)) in
     sym
     (ap (λ (x : Applied). x .answer)
-    (going-stop ranOver (begun (a .first)) s (record { answer = l .loop .said; state = l .loop .state }) (l .loop .from) (l .loop .inv)
+    (going-stop ranOver (begun (a .first)) s 0 (record { answer = l .loop .said; state = l .loop .state }) (l .loop .from) (l .loop .inv)
     (λ x q. ⊎-elim (λ t. omega (arith, rw (e ∙ q) at t)) (λ t. omega (arith, rw (e ∙ q) at t)) (c .match .keys2))))
 
 apply-of-requires : tie.Need-apply-of-requires Inv-loop μ-loop
@@ -56,7 +56,7 @@ apply-of-requires c κs = search needs
 
 -- after a record that reads
 again : (c : tie.After-state Inv-loop μ-loop)
-    → Going ranOver (begun (c .before .before .before .before .before .before .before .before .before .args .first)) (c .before .before .before .before .before .before .before .before .before .args .log .now) (c .before .apply-of .result) (c .before .before .before .before .before .before .before .loop .from + 20)
+    → Going ranOver (begun (c .before .before .before .before .before .before .before .before .before .args .first)) (c .before .before .before .before .before .before .before .before .before .args .log .now) 0 (c .before .apply-of .result) (c .before .before .before .before .before .before .before .loop .from + 20)
 unfolding ranOver
 again c =
     let p = c .before in
@@ -67,7 +67,7 @@ again c =
     let g = p .before .before .event .given in
     let e = ap readRecord (sym (tail-is s (l .loop .from))) ∙ sym (r .read .ensures) ∙ g .1 in
     rw (p .apply-of .ensures)
-    (going-more ranOver (begun (a .first)) s (record { answer = l .loop .said; state = l .loop .state }) (l .loop .from) (l .loop .inv) (g .0 .0) (applied (l .loop .state) (g .0 .0)) e (λ es. refl))
+    (going-more ranOver (begun (a .first)) s 0 (record { answer = l .loop .said; state = l .loop .state }) (l .loop .from) (l .loop .inv) (g .0 .0) (applied (l .loop .state) (g .0 .0)) e (λ es. refl))
 
 add-from : tie.Need-add-from Inv-loop μ-loop
 add-from c = omega (arith, again c .within)
