@@ -1,6 +1,6 @@
 -- The cases of the rig in their order, each from the test that decides it: the length, the table, the reading, and then the last answer.
 use Prim.Native.Nat.{ℕ, _≤_, _<_}
-use mathlib.Core.Path.{_≡_}
+use mathlib.Core.Path.{_≡_, ap}
 use mathlib.Core.List.{List}
 use borrow.Author.Tests.{lt-ltb, le-ltb}
 use lib.ListN.{length}
@@ -9,16 +9,16 @@ use Rattle.table_bytes.specs.Reading.{readTable}
 use Rattle.states.specs.declared.State.{State}
 use Rattle.logs.specs.declared.Ending.the-variants as E
 use Rattle.effects.specs.Log.{ran}
-use Rattle.codes.specs.Code.{refused, too-long, ofAnswer, logCase, begins, caseOf}
+use Rattle.codes.specs.Code.{refused, too-long, ofAnswer, afterReading, logCase, begins, caseOf}
 
 module _ (s : State) (log : List ℕ) where
   pub case-stopped : (n offset : ℕ) → ran s log .ending ≡ E.Stopped n offset → logCase s log ≡ refused n
   unfolding logCase
-  case-stopped n offset e = rw e
+  case-stopped n offset e = ap (λ x. afterReading x (ofAnswer (ran s log .answer))) e
 
   pub case-ended : ran s log .ending ≡ E.Whole → logCase s log ≡ ofAnswer (ran s log .answer)
   unfolding logCase
-  case-ended e = rw e
+  case-ended e = ap (λ x. afterReading x (ofAnswer (ran s log .answer))) e
 
 module _ (table log : List ℕ) where
   pub case-long : 65536 < length log → caseOf table log ≡ too-long

@@ -3,16 +3,17 @@
 use Prim.Native.Nat.{ℕ, _+_, _≤_}
 use mathlib.Core.Path.{_≡_, refl, _∙_}
 use mathlib.Core.List.{List, [], _∷_}
+use mathlib.Core.Logic.{_↔_}
 use native.Mathlib.Omega.{arith}
 use lib.ListN.{length, drop}
-use Rattle.laws.proofs.Tests.{tells-true}
+use Rattle.laws.proofs.Tests.{tells-true, tells-false}
 use Rattle.events.specs.declared.Event.{Event}
 use Rattle.events.specs.declared.Reading.the-variants as R
 use Rattle.events.specs.Record.{readRecord}
 use Rattle.logs.specs.Log.{eventsOf}
-use Rattle.logs.specs.Ending.{endingAt, endingOf, endingFrom}
+use Rattle.logs.specs.Ending.{endingAt, endingOf, endingFrom, endSaid}
 use Rattle.logs.proofs.Logs.{events-more, events-none}
-use Rattle.logs.proofs.Endings.{ending-none, ending-more, ending-stop}
+use Rattle.logs.proofs.Endings.{ending-none, ending-more, ending-stop, ending-most}
 use Rattle.logs.proofs.Going.{Going, going-none, going-more, going-stop, going-ending}
 use Rattle.states.specs.declared.State.{State}
 use Rattle.states.specs.Sound.{StateSound}
@@ -28,7 +29,7 @@ pub sound-acts : (s : State) (e : Event) → StateSound s → acted s e ≡ appl
 unfolding applied
 sound-acts s e p = rw (tells-true (state-tells s) p)
 
--- the state that a list of events leaves does not go by the answer before them
+-- the state after some events is that of the run over them, whatever was answered before
 pub ran-by : (a : Applied) (es : List Event) → stateAfter (a .state) es ≡ ranOver a es .state
 unfolding stateAfter ranOver
 ran-by a [] = refl
@@ -38,6 +39,14 @@ ran-by a (e ∷ es) = ran-by (applied (a .state) e) es
 pub ran-nothing : (a : Applied) → ranOver a (eventsOf []) ≡ a
 unfolding ranOver readRecord
 ran-nothing a = rw (events-none [] (λ e q. let z : _≡_ {A = ℕ} 0 1 = cc in absurd (omega arith)))
+
+-- 15 ends the reading exactly where the state is not sound: what does not read has 5 to 8
+pub ran-15 : (s : State) (log : List ℕ) → endSaid (ran s log .ending) .number ≡ 15 ↔ (StateSound s → ⊥)
+unfolding ran
+ran-15 s log = (
+  λ q p. absurd (omega (arith, ending-most log, rw (tells-true (state-tells s) p) at q)),
+  λ k. rw (tells-false (state-tells s) k),
+)
 
 -- a log by what its front reads as
 module _ (s : State) (log : List ℕ) (p : StateSound s) where

@@ -1,6 +1,6 @@
 -- What ended a reading: the computed ending agrees with the rules, both ways, since only one number of records has all before it read and the next not.
 use Prim.Native.Nat.{ℕ, suc, _+_, _-_, _*_, _≤_, _<_}
-use mathlib.Core.Path.{_≡_, refl}
+use mathlib.Core.Path.{_≡_, refl, ap}
 use mathlib.Core.List.{List, [], _∷_}
 use mathlib.Core.Logic.{_↔_, _⊎_, inl, inr}
 use native.Mathlib.Omega.{arith}
@@ -19,7 +19,7 @@ use Rattle.logs.specs.Log.{readable, readAt, restOf}
 use Rattle.logs.specs.Ending.{FirstRead, Ends, whole, stopped, endedBy, endingAt, endingFrom, endingOf, endSaid}
 use Rattle.logs.proofs.Records.{Goes, Stops, front, goes-of}
 use Rattle.logs.proofs.Logs.{event-before, readable-only}
-use Rattle.logs.proofs.Rests.{rest-offset, rest-end, rest-silent, rest-refused}
+use Rattle.logs.proofs.Rests.{rest-offset, rest-end, rest-silent, rest-most, rest-refused}
 
 -- ---- record by record
 
@@ -32,7 +32,7 @@ ended-whole (R.Refused n) offset k = absurd (k n refl)
 module _ (log : List ℕ) where
   -- a reading from the front on
   pub ending-none : endingFrom log 0 ≡ endingOf log
-  ending-none = let o : 0 + 20 * readable log ≡ 20 * readable log = omega arith in rw o
+  ending-none = let o : 0 + 20 * readable log ≡ 20 * readable log = omega arith in ap (endingAt log) o
 
   module _ (from : ℕ) where
     -- a record that reads leaves the end to what stands behind it
@@ -40,7 +40,7 @@ module _ (log : List ℕ) where
     ending-more e q =
         let n : readable (drop from log) ≡ suc (readable (drop (from + 20) log)) = rw (drop-drop 20 from log) at (goes-of (drop from log) e q .counts) in
         let o : from + 20 * readable (drop from log) ≡ (from + 20) + 20 * readable (drop (from + 20) log) = omega arith in
-        rw o
+        ap (endingAt log) o
 
     -- one that does not ends the reading where it stands
     pub ending-stop : ((e : Event) → readRecord (drop from log) ≡ R.Event e → ⊥) → endingFrom log from ≡ endingAt log from
@@ -48,7 +48,7 @@ module _ (log : List ℕ) where
       where
         go : Goes (drop from log) ⊎ Stops (drop from log) → endingFrom log from ≡ endingAt log from
         go (inl g) = absurd (k (eventOf (drop from log)) (g .reads))
-        go (inr t) = let o : from + 20 * readable (drop from log) ≡ from = omega (arith, t .none) in rw o
+        go (inr t) = let o : from + 20 * readable (drop from log) ≡ from = omega (arith, t .none) in ap (endingAt log) o
 
 -- ---- the rules
 
@@ -90,6 +90,10 @@ module _ (log : List ℕ) where
       go (R.Event e) = refl
       go R.End = refl
       go (R.Refused n) = refl
+
+  -- which is one of the reading's
+  pub ending-most : endSaid (endingOf log) .number ≤ 8
+  ending-most = rw ending-number (rest-most log)
 
   -- a log that is read to its end has none, and no offset
   pub whole-said : 20 * readable log ≡ length log → endSaid (endingOf log) ≡ record { number = 0; offsets = [] }

@@ -1,4 +1,4 @@
--- A log is gone through record by record: what is left of it, from what was made of the records so far, gives what the whole gives.
+-- A log is gone through record by record: what is left of it, from what was made of the records so far, gives what the whole gives, and ends as it does.
 use Prim.Native.Nat.{ℕ, _+_, _≤_}
 use mathlib.Core.Path.{_≡_, refl, ap, _∙_}
 use mathlib.Core.List.{List, [], _∷_}

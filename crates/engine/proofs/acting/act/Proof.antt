@@ -8,8 +8,9 @@ use native.Mathlib.Omega.{arith}
 use borrow.Author.Needs.{needs}
 use lib.ListN.{length, getD, set}
 use Rattle.laws.proofs.Parts.{tail-is}
+use Rattle.events.specs.declared.Reading.{Reading}
 use Rattle.events.specs.Record.{readRecord}
-use Rattle.logs.specs.Ending.{endingAt}
+use Rattle.logs.specs.Ending.{endedBy, endingAt}
 use Rattle.jobs.specs.Opening.{expired, noRecord}
 use Rattle.states.specs.declared.State.{State}
 use Rattle.choices.proofs.Least.{best-within}
@@ -227,7 +228,8 @@ returns c =
     let l = j .before .before .before .before .before .loop in
     let a = j .before .before .before .before .before .before .before .args in
     let e = r .read .ensures ∙ ap readRecord (tail-is (a .log .now) (l .from)) in
-    rw (c .ended .ensures, e)
+    let d : c .ended .result ≡ endingAt (a .log .now) (l .from) = c .ended .ensures ∙ ap (λ (x : Reading). endedBy x (l .from)) e in
+    rw d
     (ap (λ (x : Applied). endedWith x (endingAt (a .log .now) (l .from))) (sym (body j))
     ∙ running-stop (a .state) (a .first) (a .log .now) (a .start) (l .next) (l .event) (l .from) (l .inv)
     (λ x q. ⊎-elim (λ t. omega (arith, rw (e ∙ q) at t)) (λ t. omega (arith, rw (e ∙ q) at t)) (c .before .match .keys2)))
