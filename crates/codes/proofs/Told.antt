@@ -106,7 +106,8 @@ module _ (table log : List ℕ) where
   from c (empty b q) n e = let z : _≡_ {A = ℕ} 0 1 = cc in absurd (omega arith)
   from c (last w es x q) n e = go (applied (stateAfter (begins table) es) x .answer) refl (last-said (w .begun) es x q) e
     where
-      go : (a : Answer) → applied (stateAfter (begins table) es) x .answer ≡ a → Said (readTable table .table .count) a → ofAnswer a ≡ refused n → Source table log n
+      go : (a : Answer) → applied (stateAfter (begins table) es) x .answer ≡ a → Said (readTable table .table .count) a → ofAnswer a ≡ refused n
+          → Source table log n
       go (A.Run p k) r h z = let y : _≡_ {A = ℕ} 0 1 = cc in absurd (omega arith)
       go A.Idle r h z = let y : _≡_ {A = ℕ} 0 1 = cc in absurd (omega arith)
       go (A.Refused m) r h z =

@@ -78,7 +78,9 @@ module _ (s : State) (first : Event) (log : List ℕ) (start : ℕ) where
     unfolding ranOver
     running-more other q =
         record {
-          going = going-more ranOver (applied s first) log start (applied next event) from (g .going) other (applied (applied next event .state) other) q (λ es. refl);
+          going =
+              going-more ranOver (applied s first) log start (applied next event) from (g .going) other (applied (applied next event .state) other) q
+              (λ es. refl);
           sound = applied-sound next (g .sound) event;
           counted = count-stays next event ∙ g .counted;
         }
@@ -87,4 +89,6 @@ module _ (s : State) (first : Event) (log : List ℕ) (start : ℕ) where
         → endedWith (applied next event) (endingAt log from) ≡ endedWith (ranOver (applied s first) (eventsOf (drop start log))) (endingFrom log start)
     unfolding ranOver
     running-stop k =
-        rw (going-stop ranOver (applied s first) log start (applied next event) from (g .going) k, going-ending ranOver (applied s first) log start (applied next event) from (g .going) k)
+        let a = going-stop ranOver (applied s first) log start (applied next event) from (g .going) k in
+        let d = going-ending ranOver (applied s first) log start (applied next event) from (g .going) k in
+        rw (a, d)

@@ -21,7 +21,8 @@ pub struct Ended {
 
 // One line per event, the state after them, and what ended the reading.
 pub fn each_event(out: &mut [u8], at: usize, first: State, log: &[u8]) -> Ended
-    ensures { λ r. ⌜ (sheet (now (out .exit)) (r .place) ≡ puts (sheet (now (out .entry)) at) (eventLines 1 first (eventsOf (now (log .entry))))) × ((r .state ≡ stateAfter first (eventsOf (now (log .entry)))) × (r .ending ≡ endingOf (now (log .entry)))) ⌝ }
+    ensures { λ r. ⌜ (sheet (now (out .exit)) (r .place) ≡ puts (sheet (now (out .entry)) at) (eventLines 1 first (eventsOf (now (log .entry)))))
+        × ((r .state ≡ stateAfter first (eventsOf (now (log .entry)))) × (r .ending ≡ endingOf (now (log .entry)))) ⌝ }
 {
     let mut place = at;
     let mut state = first;

@@ -101,7 +101,8 @@ module _ (log : List ℕ) where
 
   -- any other has 5, 6, 7 or 8, and the offset of the rest's first byte
   pub stopped-said : 0 < length (restOf log)
-      → (5 ≤ endSaid (endingOf log) .number) × ((endSaid (endingOf log) .number ≤ 8) × (endSaid (endingOf log) .offsets ≡ (length log - length (restOf log)) ∷ []))
+      → (5 ≤ endSaid (endingOf log) .number)
+      × ((endSaid (endingOf log) .number ≤ 8) × (endSaid (endingOf log) .offsets ≡ (length log - length (restOf log)) ∷ []))
   stopped-said h =
       let w = rest-refused log h in
       rw (ending-number, rest-offset log) (w .0, (w .1, go (readRecord (restOf log)) (w .0)))

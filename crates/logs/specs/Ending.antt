@@ -22,7 +22,7 @@ pub data Ends (log : List ℕ) : Ending → Type 0 where
   -- records that read, and at that byte one that does not
   stopped : (n : ℕ) → FirstRead log n → {number : ℕ} → readAt log n ≡ R.Refused number → Ends log (E.Stopped number (20 * n))
 
--- the same as computed: `ends-is` and `ends-only` show that they agree
+-- the same as computed: `ends-is` and `ends-only` show that they agree. No event stands where a reading ended (`rest-silent`)
 abbrev pub endedBy : Reading → ℕ → Ending
 endedBy (R.Event e) offset = E.Whole
 endedBy R.End offset = E.Whole
@@ -36,7 +36,7 @@ endingAt log offset = endedBy (readRecord (drop offset log)) offset
 abbrev pub endingOf : List ℕ → Ending
 endingOf log = endingAt log (20 * readable log)
 
--- and one that goes on at a place behind those that read from there on
+-- a reading that goes on at a place ends behind the records that read from there on
 abbrev pub endingFrom : List ℕ → ℕ → Ending
 endingFrom log from = endingAt log (from + 20 * readable (drop from log))
 

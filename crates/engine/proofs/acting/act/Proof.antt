@@ -243,7 +243,8 @@ again c =
     let a = j .before .before .before .before .before .before .before .args in
     let g = c .before .got .given in
     let e = ap readRecord (sym (tail-is (a .log .now) (l .from))) ∙ sym (c .before .before .before .read .ensures) ∙ g .1 in
-    rw (← ap (λ (x : Applied). x .state) (body j)) (running-more (a .state) (a .first) (a .log .now) (a .start) (l .next) (l .event) (l .from) (l .inv) (g .0 .0) e)
+    rw (← ap (λ (x : Applied). x .state) (body j))
+    (running-more (a .state) (a .first) (a .log .now) (a .start) (l .next) (l .event) (l .from) (l .inv) (g .0 .0) e)
 
 add-from : tie.Need-add-from Inv-loop2 μ-loop2 Inv-loop μ-loop
 add-from c = omega (arith, again c .going .within)

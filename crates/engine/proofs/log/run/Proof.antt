@@ -16,7 +16,8 @@ use Rattle.engine.proofs.log.run.Tie as tie
 sounds : (c : tie.Then1) → StateSound (c .before .before .before .args .state)
 sounds c = state-tells (c .before .before .before .args .state) .holds (sym (c .before .is-sound .ensures) ∙ c .if1 .taken)
 
-reads : (c : tie.After-known-told) → readRecord (c .before .before .before .before .before .before .before .args .log .now) ≡ R.Event (c .before .got .given .0 .0)
+reads : (c : tie.After-known-told)
+    → readRecord (c .before .before .before .before .before .before .before .args .log .now) ≡ R.Event (c .before .got .given .0 .0)
 reads c = sym (c .before .before .before .read .ensures) ∙ c .before .got .given .1
 
 is-sound-requires : tie.Need-is-sound-requires
