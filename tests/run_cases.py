@@ -82,7 +82,34 @@ def choice(tasks):
     return f" run {p} class {c}"
 
 
-def told(rows, events):
+def read(log):
+    """The events of a log, and what ended the reading: nothing, or the refusal and the offset of the record that does not read."""
+    events, at = [], 0
+    while at < len(log):
+        part = log[at : at + 20]
+        if len(part) < 20:
+            return events, f" stop 5 at {at}"
+        if part[:2] != b"\x45\x56":
+            return events, f" stop 6 at {at}"
+        kind, k, job, time = struct.unpack("<BBQQ", part[2:])
+        if kind > 2:
+            return events, f" stop 7 at {at}"
+        if (kind < 2 and job != 0) or (kind == 0 and k != 0):
+            return events, f" stop 8 at {at}"
+        events.append((kind, k, job, time))
+        at += 20
+    return events, ""
+
+
+def ruled(c, d, t, m, k):
+    return 1 <= c <= d <= t <= 10**6 and 1 <= k <= 64 and m < k and (m > 0 or k == 1)
+
+
+def told(rows, log):
+    events, stop = read(log)
+    if not all(ruled(*r) for r in rows):
+        # a refused table starts a state of no tasks, which is not sound: 15 before all, and nothing of the log is read
+        return [" refused 15"] * len(events) + ["last refused 15 clock 0 stop 15 at 0"]
     tasks, clock, lines, last = [Task(*r) for r in rows], 0, [], " idle"
     for kind, k, job, time in events:
         last, tasks, clock = event(tasks, clock, kind, k, job, time)
@@ -92,11 +119,15 @@ def told(rows, events):
             f" met {x.outcomes.count(True)} missed {x.outcomes.count(False)} open {int(x.open is not None)}"
             f" class {max(0, x.level)} run {x.run} window {x.window()} broken {x.broken}"
         )
-    return lines + [f"last{last} clock {clock}"]
+    return lines + [f"last{last} clock {clock}{stop}"]
 
 
-def record(kind, k, job, time):
-    return b"\x45\x56" + struct.pack("<BBQQ", kind, k, job, time)
+def record(kind, k, job, time, mark=b"\x45\x56"):
+    return mark + struct.pack("<BBQQ", kind, k, job, time)
+
+
+def written(events):
+    return b"".join(record(*e) for e in events)
 
 
 def sequence(m, k, outcomes):
@@ -156,13 +187,27 @@ def cases():
         yield guided(r)
 
 
+def damaged():
+    """Logs with a record that does not read, of every number, at the front, between events that read and behind them."""
+    rows = [(2, 4, 4, 1, 2), (3, 7, 8, 1, 3)]
+    good = [(1, 0, 0, 0), (1, 1, 0, 0), (2, 0, 1, 2)]
+    bad = [
+        record(1, 0, 0, 4, b"\x44\x56"), record(1, 0, 0, 4, b"\x45\x57"), record(3, 0, 0, 4), record(0, 1, 0, 4), record(0, 0, 1, 4),
+        record(1, 0, 1, 4), record(3, 0, 1, 4, b"\x45\x45"), record(255, 1, 1, 4), record(1, 0, 0, 4)[:1], record(1, 0, 0, 4)[:19], b"\x00" * 19
+    ]
+    for wrong in bad:
+        for n in range(len(good) + 1):
+            yield rows, written(good[:n]) + wrong + (written(good[n:]) if len(wrong) == 20 else b"")
+    for log in b"", written(good), bad[0], written(good) + bad[0]:
+        yield [(2, 1, 4, 1, 2)], log
+
+
 def main():
     parts, lines = [], []
-    for rows, events in cases():
+    for rows, log in [(rows, written(events)) for rows, events in cases()] + list(damaged()):
         table = b"".join(b"\x54\x4b" + struct.pack("<IIIBB", *row) for row in rows)
-        log = b"".join(record(*e) for e in events)
         parts += [table, log]
-        lines += told(rows, events)
+        lines += told(rows, log)
     store(sys.argv[1], parts, lines)
 
 

@@ -25,6 +25,7 @@ use Rattle.states.proofs.Sounding.{state-tells}
 use Rattle.effects.specs.declared.Answer.{Answer}
 use Rattle.effects.specs.declared.Answer.the-variants as A
 use Rattle.effects.specs.declared.Applied.{Applied}
+use Rattle.effects.specs.declared.Ran.{Ran}
 use Rattle.task_steps.specs.Steps.{tooSoon, reopened, isOpen}
 use Rattle.effects.specs.Steps.{expiredAll}
 use Rattle.effects.specs.Apply.{answerOf, moved, ticked, releasedAt, completedAt, byKind, timed, acted, applied}
@@ -101,7 +102,7 @@ said-16 n (A.Refused k) l h = h
 -- the code of a log's last answer is a number of 32 bits, whatever the state: one that is not sound is answered 15
 pub ran-fits : (s : State) (log : List ℕ) → codeFor (ofAnswer (ran s log .answer)) < 2 ^ 32
 unfolding ran
-ran-fits s log = by-test (λ (a : Applied). codeFor (ofAnswer (a .answer)) < 2 ^ 32) (stateHolds s) _ _ sound (λ e. lit< tt)
+ran-fits s log = by-test (λ (r : Ran). codeFor (ofAnswer (r .answer)) < 2 ^ 32) (stateHolds s) _ _ sound (λ e. lit< tt)
   where
     small : (a : Answer) → Said 16 a → codeFor (ofAnswer a) < 2 ^ 32
     small (A.Run p c) h = omega arith

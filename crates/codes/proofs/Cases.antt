@@ -1,33 +1,24 @@
 -- The cases of the rig in their order, each from the test that decides it: the length, the table, the reading, and then the last answer.
 use Prim.Native.Nat.{ℕ, _≤_, _<_}
-use mathlib.Core.Path.{_≡_, refl}
+use mathlib.Core.Path.{_≡_, ap}
 use mathlib.Core.List.{List}
 use borrow.Author.Tests.{lt-ltb, le-ltb}
 use lib.ListN.{length}
 use Rattle.tables.specs.declared.Answer.the-variants as T
 use Rattle.table_bytes.specs.Reading.{readTable}
 use Rattle.states.specs.declared.State.{State}
-use Rattle.states.specs.State.{freshState}
-use Rattle.events.specs.declared.Reading.{Reading}
-use Rattle.events.specs.declared.Reading.the-variants as R
-use Rattle.events.specs.Record.{readRecord}
-use Rattle.logs.specs.Log.{restOf}
+use Rattle.logs.specs.declared.Ending.the-variants as E
 use Rattle.effects.specs.Log.{ran}
-use Rattle.codes.specs.Code.{refused, too-long, ofAnswer, afterReading, logCase, caseOf}
+use Rattle.codes.specs.Code.{refused, too-long, ofAnswer, afterReading, logCase, begins, caseOf}
 
 module _ (s : State) (log : List ℕ) where
-  pub case-stopped : (n : ℕ) → readRecord (restOf log) ≡ R.Refused n → logCase s log ≡ refused n
+  pub case-stopped : (n offset : ℕ) → ran s log .ending ≡ E.Stopped n offset → logCase s log ≡ refused n
   unfolding logCase
-  case-stopped n e = rw e
+  case-stopped n offset e = ap (λ x. afterReading x (ofAnswer (ran s log .answer))) e
 
-  pub case-ended : ((n : ℕ) → readRecord (restOf log) ≡ R.Refused n → ⊥) → logCase s log ≡ ofAnswer (ran s log .answer)
+  pub case-ended : ran s log .ending ≡ E.Whole → logCase s log ≡ ofAnswer (ran s log .answer)
   unfolding logCase
-  case-ended k = go (readRecord (restOf log)) refl
-    where
-      go : (r : Reading) → readRecord (restOf log) ≡ r → afterReading r (ofAnswer (ran s log .answer)) ≡ ofAnswer (ran s log .answer)
-      go (R.Event e) q = refl
-      go R.End q = refl
-      go (R.Refused n) q = absurd (k n q)
+  case-ended e = ap (λ x. afterReading x (ofAnswer (ran s log .answer))) e
 
 module _ (table log : List ℕ) where
   pub case-long : 65536 < length log → caseOf table log ≡ too-long
@@ -38,6 +29,6 @@ module _ (table log : List ℕ) where
   unfolding caseOf
   case-table l n p e = rw (le-ltb 65536 (length log) l, e)
 
-  pub case-log : length log ≤ 65536 → readTable table .answer ≡ T.Accepted → caseOf table log ≡ logCase (freshState (readTable table .table)) log
+  pub case-log : length log ≤ 65536 → readTable table .answer ≡ T.Accepted → caseOf table log ≡ logCase (begins table) log
   unfolding caseOf
   case-log l e = rw (le-ltb 65536 (length log) l, e)

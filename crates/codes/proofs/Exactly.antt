@@ -1,6 +1,6 @@
 -- A case is the rig's exactly when document 01's rule for it holds: the tests decide the rules in their order, and the last event of a log
 -- is the one that is applied last.
-use Prim.Native.Nat.{ℕ, zero, suc, _+_, _≤_, _<_}
+use Prim.Native.Nat.{ℕ, zero, suc, _+_, _*_, _≤_, _<_}
 use mathlib.Core.Path.{_≡_, refl, sym, ap, _∙_}
 use mathlib.Core.List.{List, [], _∷_, _++_}
 use mathlib.Core.Logic.{_↔_}
@@ -8,7 +8,6 @@ use native.Mathlib.Decide.{decLt}
 use native.Mathlib.Omega.{arith}
 use lib.ListN.{length}
 use Rattle.laws.proofs.Answers.{exactly, one-answer}
-use Rattle.laws.proofs.Tests.{tells-true}
 use Rattle.tables.specs.declared.Answer as D
 use Rattle.tables.specs.declared.Answer.the-variants as T
 use Rattle.table_bytes.specs.Reading.{readTable}
@@ -17,17 +16,16 @@ use Rattle.events.specs.declared.Reading.{Reading}
 use Rattle.events.specs.declared.Reading.the-variants as R
 use Rattle.events.specs.Record.{readRecord}
 use Rattle.logs.specs.Log.{readable, restOf, eventsIn, eventsOf}
+use Rattle.logs.specs.Ending.{endingOf}
 use Rattle.logs.proofs.Records.{readable-fits}
 use Rattle.logs.proofs.Rests.{rest-silent, rest-end}
-use Rattle.states.specs.declared.State.{State}
-use Rattle.states.specs.State.{freshState}
-use Rattle.states.proofs.Sounding.{state-tells}
 use Rattle.effects.specs.declared.Answer.the-variants as A
 use Rattle.effects.specs.declared.Applied.{Applied}
 use Rattle.effects.specs.Apply.{applied}
-use Rattle.effects.specs.Log.{standing, ranOver, ran}
-use Rattle.codes.specs.Code.{Case, none, codeFor, ofAnswer, caseOf, codeOf}
-use Rattle.codes.specs.Given.{Begun, Whole, stateAfter, Given, long, bad-table, bad-record, empty, last}
+use Rattle.effects.specs.Log.{standing, ranOver, stateAfter, endedWith, ran}
+use Rattle.effects.proofs.Runs.{ran-by, ran-sound}
+use Rattle.codes.specs.Code.{Case, none, refused, codeFor, ofAnswer, begins, caseOf, codeOf}
+use Rattle.codes.specs.Given.{Begun, Whole, Given, long, bad-table, bad-record, empty, last}
 use Rattle.codes.proofs.Starts.{begins-sound, begins-idle}
 use Rattle.codes.proofs.Cases.{case-stopped, case-ended, case-long, case-table, case-log}
 
@@ -69,34 +67,32 @@ no-rest : (log : List ℕ) → length log ≡ 0 → readRecord (restOf log) ≡ 
 no-rest log q = rest-end log .1 (omega (arith, readable-fits log))
 
 module _ (table log : List ℕ) where
-  abbrev begins : State
-  begins = freshState (readTable table .table)
-
   -- the log is run from a sound state
-  ran-over : Begun table log → ran begins log ≡ ranOver (standing begins) (eventsOf log)
-  unfolding ran
-  ran-over b = rw (tells-true (state-tells begins) (begins-sound table (b .tabled)))
+  ran-over : Begun table log → ran (begins table) log ≡ endedWith (ranOver (standing (begins table)) (eventsOf log)) (endingOf log)
+  ran-over b = ran-sound (begins table) log (begins-sound table (b .tabled))
 
   -- so its answer is that of its last event
-  pub ran-last : Begun table log → (es : List Event) (e : Event) → eventsOf log ≡ es ++ (e ∷ []) → ran begins log ≡ applied (stateAfter table es) e
-  ran-last b es e q = ran-over b ∙ rw (q, over-last (standing begins) es e)
+  pub ran-last : Begun table log → (es : List Event) (e : Event) → eventsOf log ≡ es ++ (e ∷ [])
+      → ran (begins table) log .answer ≡ applied (stateAfter (begins table) es) e .answer
+  ran-last b es e q = rw (ran-over b, q, over-last (standing (begins table)) es e, ran-by (standing (begins table)) es)
 
-  ran-none : Begun table log → eventsOf log ≡ [] → ofAnswer (ran begins log .answer) ≡ none
+  ran-none : Begun table log → eventsOf log ≡ [] → ofAnswer (ran (begins table) log .answer) ≡ none
   unfolding ranOver
   ran-none b q = rw (ran-over b, q, begins-idle table (b .tabled))
 
+  -- a record that does not read is told by its number
+  by-stop : Begun table log → (n : ℕ) → readRecord (restOf log) ≡ R.Refused n → caseOf table log ≡ refused n
+  by-stop b n q = case-log table log (b .within) (b .tabled) ∙ case-stopped (begins table) log n (20 * readable log) (rw (ran-over b, q))
+
   -- a log that is read to its end is told by its answer
-  by-ran : Whole table log → caseOf table log ≡ ofAnswer (ran begins log .answer)
+  by-ran : Whole table log → caseOf table log ≡ ofAnswer (ran (begins table) log .answer)
   by-ran w =
       let b = w .begun in
-      case-log table log (b .within) (b .tabled) ∙ case-ended begins log (λ n q. not-both (sym (w .ended) ∙ q))
-    where
-      not-both : {n : ℕ} → R.End ≡ R.Refused n → ⊥
-      not-both q = let z : _≡_ {A = ℕ} 0 1 = cc in absurd (omega arith)
+      case-log table log (b .within) (b .tabled) ∙ case-ended (begins table) log (rw (ran-over b, w .ended))
 
   by-last : Whole table log → (es : List Event) (e : Event) → eventsOf log ≡ es ++ (e ∷ [])
-      → caseOf table log ≡ ofAnswer (applied (stateAfter table es) e .answer)
-  by-last w es e q = by-ran w ∙ ap (λ (a : Applied). ofAnswer (a .answer)) (ran-last (w .begun) es e q)
+      → caseOf table log ≡ ofAnswer (applied (stateAfter (begins table) es) e .answer)
+  by-last w es e q = by-ran w ∙ ap ofAnswer (ran-last (w .begun) es e q)
 
   by-none : Whole table log → eventsOf log ≡ [] → caseOf table log ≡ none
   by-none w q = by-ran w ∙ ran-none (w .begun) q
@@ -116,7 +112,7 @@ module _ (table log : List ℕ) where
       go : (r : Reading) → readRecord (restOf log) ≡ r → Given table log (caseOf table log)
       go (R.Event e) q = absurd (rest-silent log e q)
       go R.End q = has-whole (record { begun = b; ended = q })
-      go (R.Refused n) q = rw (case-log table log (b .within) (b .tabled), case-stopped begins log n q) (bad-record b q)
+      go (R.Refused n) q = rw (by-stop b n q) (bad-record b q)
 
   pub given-is : Given table log (caseOf table log)
   given-is = go (decLt 65536 (length log))
@@ -132,7 +128,7 @@ module _ (table log : List ℕ) where
   given-only : (c : Case) → Given table log c → c ≡ caseOf table log
   given-only c (long l) = sym (case-long table log l)
   given-only c (bad-table l {n} {p} q) = sym (case-table table log l n p q)
-  given-only c (bad-record b {n} q) = sym (case-log table log (b .within) (b .tabled) ∙ case-stopped begins log n q)
+  given-only c (bad-record b {n} q) = sym (by-stop b n q)
   given-only c (empty b q) = sym (by-none (record { begun = b; ended = no-rest log q }) (no-events log q))
   given-only c (last w es e q) = sym (by-last w es e q)
 
@@ -146,6 +142,6 @@ module _ (table log : List ℕ) where
 
   -- a last event that is refused is told by its number
   pub last-refused : (n : ℕ) → Whole table log → (es : List Event) (e : Event) → eventsOf log ≡ es ++ (e ∷ [])
-      → applied (stateAfter table es) e .answer ≡ A.Refused n → codeOf table log ≡ 32 + n
+      → applied (stateAfter (begins table) es) e .answer ≡ A.Refused n → codeOf table log ≡ 32 + n
   unfolding codeOf
   last-refused n w es e q a = ap codeFor (by-last w es e q ∙ ap ofAnswer a)

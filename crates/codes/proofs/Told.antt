@@ -10,7 +10,6 @@ use lib.ListN.{length}
 use Rattle.tables.specs.declared.Answer.the-variants as T
 use Rattle.table_bytes.specs.Reading.{readTable}
 use Rattle.table_bytes.proofs.Exactly.{read-among}
-use Rattle.states.specs.State.{freshState}
 use Rattle.events.specs.declared.Event.{Event}
 use Rattle.events.specs.declared.Reading.the-variants as R
 use Rattle.events.specs.Record.{readRecord}
@@ -20,8 +19,9 @@ use Rattle.logs.proofs.Rests.{rest-refused}
 use Rattle.effects.specs.declared.Answer.{Answer}
 use Rattle.effects.specs.declared.Answer.the-variants as A
 use Rattle.effects.specs.Apply.{applied}
-use Rattle.codes.specs.Code.{Case, chosen, none, refused, too-long, Fits, codeFor, caseFor, Said, ofAnswer, caseOf, codeOf}
-use Rattle.codes.specs.Given.{Begun, stateAfter, Given, long, bad-table, bad-record, empty, last, Source, of-table, of-record, of-event}
+use Rattle.effects.specs.Log.{stateAfter}
+use Rattle.codes.specs.Code.{Case, chosen, none, refused, too-long, Fits, codeFor, caseFor, Said, ofAnswer, begins, caseOf, codeOf}
+use Rattle.codes.specs.Given.{Begun, Given, long, bad-table, bad-record, empty, last, Source, of-table, of-record, of-event}
 use Rattle.codes.proofs.Answers.{ran-said, said-16}
 use Rattle.codes.proofs.Starts.{answer-is, begins-sound}
 use Rattle.codes.proofs.Exactly.{ran-last, given-is, given-exactly}
@@ -50,8 +50,8 @@ module _ (table log : List ℕ) where
   table-among n p q = read-among table n p (sym (answer-is table) ∙ q)
 
   last-said : Begun table log → (es : List Event) (e : Event) → eventsOf log ≡ es ++ (e ∷ [])
-      → Said (readTable table .table .count) (applied (stateAfter table es) e .answer)
-  last-said b es e q = rw (ran-last table log b es e q) at (ran-said (freshState (readTable table .table)) log (begins-sound table (b .tabled)))
+      → Said (readTable table .table .count) (applied (stateAfter (begins table) es) e .answer)
+  last-said b es e q = rw (ran-last table log b es e q) at (ran-said (begins table) log (begins-sound table (b .tabled)))
 
   most : Begun table log → readTable table .table .count ≤ 16
   most b = begins-sound table (b .tabled) .counted .most
@@ -64,8 +64,8 @@ module _ (table log : List ℕ) where
   fits c (bad-record b {n} q) = let a = stopped-among n q in (omega (arith, a .0), omega (arith, a .1))
   fits c (empty b q) = tt
   fits c (last w es e q) =
-      go (applied (stateAfter table es) e .answer)
-      (said-16 (readTable table .table .count) (applied (stateAfter table es) e .answer) (most (w .begun)) (last-said (w .begun) es e q))
+      go (applied (stateAfter (begins table) es) e .answer)
+      (said-16 (readTable table .table .count) (applied (stateAfter (begins table) es) e .answer) (most (w .begun)) (last-said (w .begun) es e q))
     where
       go : (a : Answer) → Said 16 a → Fits (ofAnswer a)
       go (A.Run p k) h = h
@@ -104,9 +104,10 @@ module _ (table log : List ℕ) where
       let a = stopped-among m q in
       of-record (omega (arith, a .0)) (omega (arith, a .1)) (rw z at q)
   from c (empty b q) n e = let z : _≡_ {A = ℕ} 0 1 = cc in absurd (omega arith)
-  from c (last w es x q) n e = go (applied (stateAfter table es) x .answer) refl (last-said (w .begun) es x q) e
+  from c (last w es x q) n e = go (applied (stateAfter (begins table) es) x .answer) refl (last-said (w .begun) es x q) e
     where
-      go : (a : Answer) → applied (stateAfter table es) x .answer ≡ a → Said (readTable table .table .count) a → ofAnswer a ≡ refused n → Source table log n
+      go : (a : Answer) → applied (stateAfter (begins table) es) x .answer ≡ a → Said (readTable table .table .count) a → ofAnswer a ≡ refused n
+          → Source table log n
       go (A.Run p k) r h z = let y : _≡_ {A = ℕ} 0 1 = cc in absurd (omega arith)
       go A.Idle r h z = let y : _≡_ {A = ℕ} 0 1 = cc in absurd (omega arith)
       go (A.Refused m) r h z =
@@ -123,7 +124,7 @@ module _ (table log : List ℕ) where
   chosen-by c (bad-table l q) p e = let z : _≡_ {A = ℕ} 0 1 = cc in absurd (omega arith)
   chosen-by c (bad-record b q) p e = let z : _≡_ {A = ℕ} 0 1 = cc in absurd (omega arith)
   chosen-by c (empty b q) p e = let z : _≡_ {A = ℕ} 0 1 = cc in absurd (omega arith)
-  chosen-by c (last w es x q) p e = go (applied (stateAfter table es) x .answer) (last-said (w .begun) es x q) e
+  chosen-by c (last w es x q) p e = go (applied (stateAfter (begins table) es) x .answer) (last-said (w .begun) es x q) e
     where
       go : (a : Answer) → Said (readTable table .table .count) a → ofAnswer a ≡ chosen p → p < readTable table .table .count
       go (A.Run k c) h z = let y : k ≡ p = cc in omega arith

@@ -9,10 +9,8 @@ use Rattle.tables.specs.declared.Answer.the-variants as T
 use Rattle.table_bytes.specs.Reading.{readTable}
 use Rattle.states.specs.declared.State.{State}
 use Rattle.states.specs.State.{freshState}
-use Rattle.events.specs.declared.Reading.{Reading}
-use Rattle.events.specs.declared.Reading.the-variants as R
-use Rattle.events.specs.Record.{readRecord}
-use Rattle.logs.specs.Log.{restOf}
+use Rattle.logs.specs.declared.Ending.{Ending}
+use Rattle.logs.specs.declared.Ending.the-variants as E
 use Rattle.effects.specs.declared.Answer.{Answer}
 use Rattle.effects.specs.declared.Answer.the-variants as A
 use Rattle.effects.specs.Log.{ran}
@@ -55,25 +53,28 @@ Said n A.Idle = Unit
 Said n (A.Refused k) = (9 ≤ k) × (k ≤ 12)
 
 -- a reading refusal goes before it
-abbrev pub afterReading : Reading → Case → Case
-afterReading (R.Event e) x = x
-afterReading R.End x = x
-afterReading (R.Refused n) x = refused n
+abbrev pub afterReading : Ending → Case → Case
+afterReading E.Whole x = x
+afterReading (E.Stopped n offset) x = refused n
 
--- what the record at which the reading ended says, then the last event's answer; with no event the choice of the state as it stands
+-- what ended the reading, then the last event's answer; with no event the choice of the state as it stands
 unfoldable pub logCase : State → List ℕ → Case
-logCase s log = afterReading (readRecord (restOf log)) (ofAnswer (ran s log .answer))
+logCase s log = afterReading (ran s log .ending) (ofAnswer (ran s log .answer))
 
 -- a table refusal goes before both
 abbrev pub afterTable : D.Answer → Case → Case
 afterTable T.Accepted x = x
 afterTable (T.Refused n p) x = refused n
 
+-- the state that a table's log begins from
+abbrev pub begins : List ℕ → State
+begins table = freshState (readTable table .table)
+
 -- over 65,536 bytes before anything else is looked at
 unfoldable pub caseOf : List ℕ → List ℕ → Case
 caseOf table log =
     cond (ltb 65536 (length log)) too-long
-    (afterTable (readTable table .answer) (logCase (freshState (readTable table .table)) log))
+    (afterTable (readTable table .answer) (logCase (begins table) log))
 
 unfoldable pub codeOf : List ℕ → List ℕ → ℕ
 codeOf table log = codeFor (caseOf table log)

@@ -5,16 +5,14 @@ use mathlib.Core.List.{List, [], _∷_, _++_}
 use lib.ListN.{length}
 use Rattle.tables.specs.declared.Answer.the-variants as T
 use Rattle.table_bytes.specs.Reading.{readTable}
-use Rattle.states.specs.declared.State.{State}
-use Rattle.states.specs.State.{freshState}
 use Rattle.events.specs.declared.Event.{Event}
 use Rattle.events.specs.declared.Reading.the-variants as R
 use Rattle.events.specs.Record.{readRecord}
 use Rattle.logs.specs.Log.{restOf, eventsOf}
 use Rattle.effects.specs.declared.Answer.the-variants as A
 use Rattle.effects.specs.Apply.{applied}
-use Rattle.effects.specs.Log.{standing, ranOver}
-use Rattle.codes.specs.Code.{Case, none, refused, too-long, ofAnswer}
+use Rattle.effects.specs.Log.{stateAfter}
+use Rattle.codes.specs.Code.{Case, none, refused, too-long, ofAnswer, begins}
 
 -- the log is within the limit and the table is read
 pub record Begun (table log : List ℕ) : Type 0 where
@@ -25,10 +23,6 @@ pub record Begun (table log : List ℕ) : Type 0 where
 pub record Whole (table log : List ℕ) : Type 0 where
   pub begun : Begun table log
   pub ended : readRecord (restOf log) ≡ R.End
-
--- the state of a table after some events
-abbrev pub stateAfter : List ℕ → List Event → State
-stateAfter table es = ranOver (standing (freshState (readTable table .table))) es .state
 
 pub data Given (table log : List ℕ) : Case → Type 0 where
   -- a log over 65,536 bytes gives 64 before anything else is looked at
@@ -41,11 +35,11 @@ pub data Given (table log : List ℕ) : Case → Type 0 where
   empty : Begun table log → length log ≡ 0 → Given table log none
   -- one number for the last event
   last : Whole table log → (es : List Event) (e : Event) → eventsOf log ≡ es ++ (e ∷ [])
-      → Given table log (ofAnswer (applied (stateAfter table es) e .answer))
+      → Given table log (ofAnswer (applied (stateAfter (begins table) es) e .answer))
 
 -- where a refusal comes from: its number says it
 pub data Source (table log : List ℕ) (n : ℕ) : Type 0 where
   of-table : 1 ≤ n → n ≤ 4 → (p : ℕ) → readTable table .answer ≡ T.Refused n p → Source table log n
   of-record : 5 ≤ n → n ≤ 8 → readRecord (restOf log) ≡ R.Refused n → Source table log n
   of-event : 9 ≤ n → n ≤ 12 → (es : List Event) (e : Event) → eventsOf log ≡ es ++ (e ∷ [])
-      → applied (stateAfter table es) e .answer ≡ A.Refused n → Source table log n
+      → applied (stateAfter (begins table) es) e .answer ≡ A.Refused n → Source table log n

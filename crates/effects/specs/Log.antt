@@ -1,12 +1,16 @@
--- Applying a log: the events that read, one after the other, and the last answer.
+-- Applying a log: the events that read, one after the other, the last answer, and what ended the reading.
 use mathlib.Core.Bool.{cond}
 use mathlib.Core.List.{List, [], _∷_}
 use Prim.Native.Nat.{ℕ}
 use Rattle.events.specs.declared.Event.{Event}
+use Rattle.logs.specs.declared.Ending.{Ending}
+use Rattle.logs.specs.declared.Ending.the-variants as E
 use Rattle.logs.specs.Log.{eventsOf}
+use Rattle.logs.specs.Ending.{endingOf}
 use Rattle.states.specs.declared.State.{State}
 use Rattle.states.specs.Sound.{stateHolds}
 use Rattle.effects.specs.declared.Applied.{Applied}
+use Rattle.effects.specs.declared.Ran.{Ran}
 use Rattle.effects.specs.Apply.{answerOf, refused, applied}
 
 -- before any event: the choice as it stands
@@ -22,6 +26,10 @@ unfoldable pub stateAfter : State → List Event → State
 stateAfter s [] = s
 stateAfter s (e ∷ es) = stateAfter (applied s e .state) es
 
--- a state that is not sound goes no further
-unfoldable pub ran : State → List ℕ → Applied
-ran s log = cond (stateHolds s) (ranOver (standing s) (eventsOf log)) (refused s 15)
+-- what was done, and what ended the reading
+abbrev pub endedWith : Applied → Ending → Ran
+endedWith a e = record { answer = a .answer; state = a .state; ending = e }
+
+-- 15 before all: nothing of the log is read for a state that is not sound, so that is what stopped it, at its first byte
+unfoldable pub ran : State → List ℕ → Ran
+ran s log = cond (stateHolds s) (endedWith (ranOver (standing s) (eventsOf log)) (endingOf log)) (endedWith (refused s 15) (E.Stopped 15 0))

@@ -1,4 +1,5 @@
-// What an event or a log does to a state: the answer, and the state beside it. No code but these two types: the rest stands in specs/ and proofs/.
+// What an event or a log does to a state: the answer, and the state beside it. No code but these types: the rest stands in specs/ and proofs/.
+use logs::Ending;
 use states::State;
 
 pub enum Answer {
@@ -10,4 +11,11 @@ pub enum Answer {
 pub struct Applied {
     pub answer: Answer,
     pub state: State,
+}
+
+// What a log does: the last answer, the state after it, and what ended the reading.
+pub struct Ran {
+    pub answer: Answer,
+    pub state: State,
+    pub ending: Ending,
 }

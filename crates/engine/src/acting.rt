@@ -3,40 +3,35 @@ use super::telling::told;
 use choices::Best;
 use choices::better_of;
 use effects::Answer;
-use effects::Applied;
+use effects::Ran;
 use events::Event;
 use events::Reading;
 use events::read;
 use jobs::opening::is_late;
+use logs::ended;
 use records::closing::close;
 use rulings::judging::rule;
 use rulings::judging::seat;
 use states::State;
 ghost use mathlib.Core.Path.{_≡_};
+ghost use Prim.Native.Nat.{_≤_};
+ghost use lib.ListN.{length, drop};
 ghost use Rattle.logs.specs.Log.{eventsOf};
+ghost use Rattle.logs.specs.Ending.{endingFrom};
 ghost use Rattle.states.specs.Sound.{StateSound};
-ghost use Rattle.effects.specs.Apply.{refused, applied};
-ghost use Rattle.effects.specs.Log.{ranOver};
+ghost use Rattle.effects.specs.Apply.{applied};
+ghost use Rattle.effects.specs.Log.{ranOver, endedWith};
 
-pub fn refuse(state: State, number: u8) -> Applied
-    ensures { λ r. ⌜ r ≡ refused state number ⌝ }
-{
-    Applied {
-        answer: Answer::Refused(number),
-        state: state,
-    }
-}
-
-// The event, and then those that follow it in a log. A refused event leaves the state as it stands.
-pub fn act(state: State, first: Event, log: &[u8]) -> Applied
-    requires { ⌜ StateSound state ⌝ }
-    ensures { λ r. ⌜ r ≡ ranOver (applied state first) (eventsOf (now (log .entry))) ⌝ }
+// The event, and then those that follow it in a log, from a place on. A refused event leaves the state as it stands.
+pub fn act(state: State, first: Event, log: &[u8], start: usize) -> Ran
+    requires { ⌜ (StateSound state) × (start ≤ length (now log)) ⌝ }
+    ensures { λ r. ⌜ r ≡ endedWith (ranOver (applied state first) (eventsOf (drop start (now (log .entry))))) (endingFrom (now (log .entry)) start) ⌝ }
 {
     let count = state.count;
     let mut next = state;
     let mut said = Answer::Idle;
     let mut event = first;
-    let mut from: usize = 0;
+    let mut from = start;
     loop {
         let at = seat(event.task, count);
         let ruling = rule(next.clock, count, next.records[at], event);
@@ -63,10 +58,12 @@ pub fn act(state: State, first: Event, log: &[u8]) -> Applied
         } else {
             said = Answer::Refused(ruling.refusal);
         }
-        let Reading::Event(other) = read(&log[from..]) else {
-            return Applied {
+        let got = read(&log[from..]);
+        let Reading::Event(other) = got else {
+            return Ran {
                 answer: said,
                 state: next,
+                ending: ended(got, from),
             };
         };
         event = other;

@@ -1,6 +1,6 @@
 // Applying an event: 15 before all. A refused event returns the state as given.
 use super::acting::act;
-use super::acting::refuse;
+use effects::Answer;
 use effects::Applied;
 use events::Event;
 use states::State;
@@ -12,7 +12,16 @@ pub fn apply(state: State, event: Event) -> Applied
     ensures { λ r. ⌜ r ≡ applied state event ⌝ }
 {
     if is_sound(state) {
-        return act(state, event, b"");
+        let ran = act(state, event, b"", 0);
+        let said = ran.answer;
+        let after = ran.state;
+        return Applied {
+            answer: said,
+            state: after,
+        };
     }
-    refuse(state, 15)
+    Applied {
+        answer: Answer::Refused(15),
+        state: state,
+    }
 }

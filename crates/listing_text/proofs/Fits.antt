@@ -27,8 +27,11 @@ use Rattle.events.specs.declared.Event.{Event}
 use Rattle.events.specs.declared.Reading.{Reading}
 use Rattle.events.specs.declared.Reading.the-variants as R
 use Rattle.events.specs.Record.{readRecord}
+use Rattle.events.specs.Answer.{readSaid}
 use Rattle.logs.specs.Log.{readable, restOf, eventsIn, eventsOf}
+use Rattle.logs.specs.Ending.{endedBy}
 use Rattle.logs.proofs.Records.{readable-fits}
+use Rattle.logs.proofs.Rests.{rest-most}
 use Rattle.records.specs.declared.Record.{Record}
 use Rattle.records.specs.Window.{windowOf}
 use Rattle.balances.specs.Balance.{openOf}
@@ -49,7 +52,7 @@ use Rattle.effects.specs.Log.{stateAfter}
 use Rattle.listing_text.specs.LogLines.{eventLines, stopBy, stopText}
 use Rattle.listing_text.specs.Listing.{tableListing, listedBy, listed, tableThere, tableBytes, eventBytes, listingOf}
 use Rattle.listing_text.proofs.Input.{read-good}
-use Rattle.listing_text.proofs.Small.{refusal-small, w-digits, h-digits, task-ruled, bound-small, Small, applied-small, stop-small, met-small, missed-small, broken-small, open-small, window-small, fresh-state-sound}
+use Rattle.listing_text.proofs.Small.{refusal-small, w-digits, h-digits, task-ruled, bound-small, Small, applied-small, met-small, missed-small, broken-small, open-small, window-small, fresh-state-sound}
 
 -- ---- each line
 
@@ -73,10 +76,10 @@ answer-most (Said.Refused n) h = omega (arith, decimal-short 1 n h)
 event-most : (i : ℕ) (a : Said) → i < 10000 → Small a → length (eventLine i a) ≤ 27
 event-most i a h s = simp length-append (omega (arith, decimal-short 3 i h, answer-most a s))
 
-stop-most : (r : Reading) (offset : ℕ) → ((n : ℕ) → r ≡ R.Refused n → n < 100) → offset < 100000 → length (stopBy r offset) ≤ 17
+stop-most : (r : Reading) (offset : ℕ) → readSaid r .number ≤ 8 → offset < 100000 → length (stopBy (endedBy r offset)) ≤ 17
 stop-most (R.Event e) offset k h = omega arith
 stop-most R.End offset k h = omega arith
-stop-most (R.Refused n) offset k h = simp length-append (omega (arith, decimal-short 1 n (k n refl), decimal-short 4 offset h))
+stop-most (R.Refused n) offset k h = simp length-append (omega (arith, decimal-short 1 n (omega arith), decimal-short 4 offset h))
 
 last-most : (i : ℕ) (r : Record) (clock : ℕ) → i < 100 → Sound r clock → clock ≤ limit → length (lastLine i r) ≤ 85
 last-most i r clock h s l =
@@ -144,7 +147,7 @@ table-most t good log h =
     let n = events-count (readable log) log in
     let a = tasks-most t good (t .count) (le-refl (t .count)) in
     let b = events-most 1 (freshState t) (eventsOf log) f (omega arith) in
-    let o = stop-most (readRecord (restOf log)) (20 * readable log) (stop-small (restOf log)) (omega arith) in
+    let o = stop-most (readRecord (restOf log)) (20 * readable log) (rest-most log) (omega arith) in
     let q = stateAfter (freshState t) (eventsOf log) in
     let k : q .count ≡ t .count = after-count (freshState t) (eventsOf log) in
     let d = lasts-most q (after-sound (freshState t) (eventsOf log) f) (t .count) (omega arith) in

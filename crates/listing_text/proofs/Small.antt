@@ -34,10 +34,7 @@ use Rattle.bounds.specs.declared.Bound.{Bound}
 use Rattle.bounds.specs.declared.Bound.the-variants as Bound
 use Rattle.bounds.specs.Asked.{orThirteen, oneAnswer}
 use Rattle.events.specs.declared.Event.{Event}
-use Rattle.events.specs.declared.Reading.{Reading}
-use Rattle.events.specs.declared.Reading.the-variants as R
 use Rattle.events.specs.Event.{zeroes, faultOf}
-use Rattle.events.specs.Record.{eventOf, marks, heard, readRecord}
 use Rattle.levels.proofs.Needs.{level-told}
 use Rattle.records.specs.declared.Record.{Record}
 use Rattle.jobs.specs.Opening.{fresh, expired, noRecord}
@@ -166,41 +163,6 @@ module _ (s : State) (e : Event) where
   unfolding applied
   applied-small p =
       by-test Fair (stateHolds s) (acted s e) (record { answer = Said.Refused 15; state = s }) (λ q. acted-fair) (λ q y. omega arith) (applied-sound s p e)
-
--- ---- what is refused of a record
-
--- the number is small where there is one
-abbrev Numbered : Reading → Type 0
-Numbered r = (n : ℕ) → r ≡ R.Refused n → n < 100
-
-known : (k : ℕ) → k < 100 → Numbered (R.Refused k)
-known k h n q =
-    let e : k ≡ n = cc in
-    omega arith
-
-not-event : (e : Event) → Numbered (R.Event e)
-not-event e n q =
-    let z : _≡_ {A = ℕ} 0 1 = cc in
-    absurd (omega arith)
-
-not-end : Numbered R.End
-not-end n q =
-    let z : _≡_ {A = ℕ} 0 1 = cc in
-    absurd (omega arith)
-
-heard-small : (e : Event) → Numbered (heard e (faultOf e))
-unfolding faultOf
-heard-small e =
-    by-test (λ (k : ℕ). Numbered (heard e k)) (ltb 2 (e .kind)) 7 (cond (zeroes e) 0 8) (λ x. known 7 (omega arith))
-    (λ x. by-test (λ (k : ℕ). Numbered (heard e k)) (zeroes e) 0 8 (λ z. not-event e) (λ z. known 8 (omega arith)))
-
-pub stop-small : (s : List ℕ) (n : ℕ) → readRecord s ≡ R.Refused n → n < 100
-unfolding readRecord
-stop-small s =
-    by-test Numbered (eqb (length s) 0) _ _ (λ q. not-end)
-    (λ q.
-    by-test Numbered (ltb (length s) 20) _ _ (λ f. known 5 (omega arith))
-    (λ f. by-test Numbered (marks s) _ _ (λ m. heard-small (eventOf s)) (λ m. known 6 (omega arith))))
 
 -- ---- what a sound record holds
 

@@ -1,8 +1,8 @@
 -- What the parts of the listing say in the words of the crates below: the bound, the state at the end, the stop, and that nothing is listed twice or not at all.
 use Prim.Native.Nat.{ℕ, _*_, _≤_, _<_}
-use mathlib.Core.Path.{_≡_, refl, _∙_}
+use mathlib.Core.Path.{_≡_, _∙_}
 use mathlib.Core.Bool.{true, false}
-use mathlib.Core.List.{List, [], _∷_}
+use mathlib.Core.List.{List, []}
 use borrow.Author.Tests.{lt-ltb, le-ltb}
 use lib.ListN.{length, drop}
 use Rattle.tables.specs.declared.Answer.the-variants.{Accepted, Refused}
@@ -20,9 +20,8 @@ use Rattle.events.specs.Record.{readRecord}
 use Rattle.logs.specs.Log.{readable}
 use Rattle.logs.proofs.Rests.{rest-end}
 use Rattle.states.specs.declared.State.{State}
-use Rattle.effects.specs.declared.Applied.{Applied}
-use Rattle.effects.specs.Apply.{applied}
 use Rattle.effects.specs.Log.{standing, ranOver, stateAfter}
+use Rattle.effects.proofs.Runs.{ran-by}
 use Rattle.wording.specs.Fields.{fieldOf}
 use Rattle.wording.specs.Words.{boundWord, noBoundWord}
 use Rattle.listing_text.specs.TaskLines.{boundText}
@@ -48,11 +47,6 @@ module _ (t : Table) (good : judged t ≡ Accepted) (i : ℕ) (h : i < t .count)
       shown ∙ rw e
 
 -- ---- the state at the end is the one that applying the log gives
-
-ran-by : (a : Applied) (es : List Event) → stateAfter (a .state) es ≡ ranOver a es .state
-unfolding stateAfter ranOver
-ran-by a [] = refl
-ran-by a (e ∷ es) = ran-by (applied (a .state) e) es
 
 pub state-ran : (s : State) (es : List Event) → stateAfter s es ≡ ranOver (standing s) es .state
 state-ran s es = ran-by (standing s) es

@@ -1,6 +1,6 @@
 // The code of a log on a state: what ended the reading, or the last event's answer.
 use effects::Answer;
-use events::Reading;
+use logs::Ending;
 use states::State;
 ghost use mathlib.Core.Path.{_≡_};
 ghost use Prim.Native.Nat.{_+_, _^_, _<_};
@@ -40,11 +40,14 @@ fn code_of(answer: Answer) -> u32
 pub fn log_code(state: State, log: &[u8]) -> u32
     ensures { λ r. ⌜ r ≡ codeFor (logCase state (now (log .entry))) ⌝ }
 {
-    let left = logs::rest(log);
-    if let Reading::Refused(fault) = events::read(left) {
-        return refusal(fault);
-    }
     let ran = engine::log::run(state, log);
+    let ending = ran.ending;
+    if let Ending::Stopped {
+        number: number,
+        offset: _,
+    } = ending {
+        return refusal(number);
+    }
     let said = ran.answer;
     code_of(said)
 }

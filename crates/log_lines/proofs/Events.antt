@@ -1,22 +1,23 @@
 -- The lines of a log, record by record: what is left of the log, listed from the state so far, completes what the whole log lists.
 use Prim.Native.Nat.{ℕ, _+_, _*_}
 use mathlib.Core.Path.{_≡_, refl, sym, ap, _∙_}
-use mathlib.Core.List.{List, []}
+use mathlib.Core.List.{List}
 use native.Mathlib.Omega.{arith}
 use lib.ListN.{length, drop}
 use Rattle.texts.specs.Sheet.{Sheet, sheet, puts}
 use Rattle.texts.proofs.Sheets.{puts-on}
 use Rattle.events.specs.declared.Event.{Event}
-use Rattle.events.specs.declared.Reading.{Reading}
 use Rattle.events.specs.declared.Reading.the-variants as R
 use Rattle.events.specs.Record.{readRecord}
 use Rattle.logs.specs.Log.{eventsOf}
-use Rattle.logs.proofs.Going.{Going, going-none, going-more, going-stop}
+use Rattle.logs.specs.Ending.{endingAt, endingOf}
+use Rattle.logs.proofs.Endings.{ending-none}
+use Rattle.logs.proofs.Going.{Going, going-none, going-more, going-stop, going-ending}
 use Rattle.states.specs.declared.State.{State}
 use Rattle.effects.specs.Apply.{applied}
 use Rattle.listing_text.specs.EventLines.{eventLine}
 use Rattle.effects.specs.Log.{stateAfter}
-use Rattle.listing_text.specs.LogLines.{eventLines, stopBy}
+use Rattle.listing_text.specs.LogLines.{eventLines}
 
 -- what is held between two events: the lines so far, the state, and how many events were read
 pub record Held : Type 0 where
@@ -33,12 +34,12 @@ listed h es = (puts (h .lines) (eventLines (h .read + 1) (h .state) es), stateAf
 
 -- at a place of the log, i events later, with the lines and the state so far
 pub record Listing (o : List ℕ) (at : ℕ) (s : State) (log : List ℕ) (out : List ℕ) (place : ℕ) (q : State) (i from : ℕ) : Type 0 where
-  pub going : Going listed (held o at s 0) log (held out place q i) from
+  pub going : Going listed (held o at s 0) log 0 (held out place q i) from
   pub turns : from ≡ 20 * i
   pub size : length out ≡ length o
 
 pub listing-none : (o : List ℕ) (at : ℕ) (s : State) (log : List ℕ) → Listing o at s log o at s 0 0
-listing-none o at s log = record { going = going-none listed (held o at s 0) log; turns = refl; size = refl }
+listing-none o at s log = record { going = going-none listed (held o at s 0) log 0 (omega arith); turns = refl; size = refl }
 
 module _ (o : List ℕ) (at : ℕ) (s : State) (log out : List ℕ) (place : ℕ) (q : State) (i from : ℕ) (g : Listing o at s log out place q i from) where
   pub listing-more : (e : Event) (out' : List ℕ) (place' : ℕ) → readRecord (drop from log) ≡ R.Event e → length out' ≡ length out
@@ -48,21 +49,17 @@ module _ (o : List ℕ) (at : ℕ) (s : State) (log out : List ℕ) (place : ℕ
   listing-more e out' place' r l p =
       record {
         going =
-            going-more listed (held o at s 0) log (held out place q i) from (g .going) e (held out' place' (applied q e .state) (i + 1)) r
+            going-more listed (held o at s 0) log 0 (held out place q i) from (g .going) e (held out' place' (applied q e .state) (i + 1)) r
             (λ es. rw (p, puts-on (sheet out place)));
         turns = omega (arith, g .turns);
         size = l ∙ g .size;
       }
 
   pub listing-stop : ((e : Event) → readRecord (drop from log) ≡ R.Event e → ⊥)
-      → (sheet out place ≡ puts (sheet o at) (eventLines 1 s (eventsOf log))) × (q ≡ stateAfter s (eventsOf log))
+      → (sheet out place ≡ puts (sheet o at) (eventLines 1 s (eventsOf log)))
+      × ((q ≡ stateAfter s (eventsOf log)) × (endingAt log from ≡ endingOf log))
   unfolding eventLines stateAfter puts
   listing-stop k =
-      let t = going-stop listed (held o at s 0) log (held out place q i) from (g .going) k in
-      (sym (ap (λ (x : Sheet × State). x .0) t), sym (ap (λ (x : Sheet × State). x .1) t))
-
--- no line where no record is refused
-pub no-stop : (r : Reading) (offset : ℕ) → ((n : ℕ) → r ≡ R.Refused n → ⊥) → stopBy r offset ≡ []
-no-stop (R.Event e) offset k = refl
-no-stop R.End offset k = refl
-no-stop (R.Refused n) offset k = absurd (k n refl)
+      let t = going-stop listed (held o at s 0) log 0 (held out place q i) from (g .going) k in
+      let d = going-ending listed (held o at s 0) log 0 (held out place q i) from (g .going) k in
+      (sym (ap (λ (x : Sheet × State). x .0) t), (sym (ap (λ (x : Sheet × State). x .1) t), sym d ∙ ending-none log))

@@ -2,33 +2,39 @@
 use engine::apply::apply;
 use events::Reading;
 use events::read;
-use logs::rest;
+use logs::Ending;
+use logs::ended;
 use states::State;
 ghost use mathlib.Core.Path.{_≡_};
 ghost use Rattle.logs.specs.Log.{eventsOf};
+ghost use Rattle.logs.specs.Ending.{endingOf};
 ghost use Rattle.texts.specs.Sheet.{sheet, puts};
 ghost use Rattle.effects.specs.Log.{stateAfter};
-ghost use Rattle.listing_text.specs.LogLines.{eventLines, stopText};
+ghost use Rattle.listing_text.specs.LogLines.{eventLines, stopBy};
 
-// Where the lines of the events end, and the state after them.
+// Where the lines of the events end, the state after them, and what ended the reading.
 pub struct Ended {
     pub place: usize,
     pub state: State,
+    pub ending: Ending,
 }
 
-// One line per event, and the state after them.
+// One line per event, the state after them, and what ended the reading.
 pub fn each_event(out: &mut [u8], at: usize, first: State, log: &[u8]) -> Ended
-    ensures { λ r. ⌜ (sheet (now (out .exit)) (r .place) ≡ puts (sheet (now (out .entry)) at) (eventLines 1 first (eventsOf (now (log .entry))))) × (r .state ≡ stateAfter first (eventsOf (now (log .entry)))) ⌝ }
+    ensures { λ r. ⌜ (sheet (now (out .exit)) (r .place) ≡ puts (sheet (now (out .entry)) at) (eventLines 1 first (eventsOf (now (log .entry)))))
+        × ((r .state ≡ stateAfter first (eventsOf (now (log .entry)))) × (r .ending ≡ endingOf (now (log .entry)))) ⌝ }
 {
     let mut place = at;
     let mut state = first;
     let mut i: usize = 0;
     let mut from: usize = 0;
     loop {
-        let Reading::Event(event) = read(&log[from..]) else {
+        let got = read(&log[from..]);
+        let Reading::Event(event) = got else {
             return Ended {
                 place: place,
                 state: state,
+                ending: ended(got, from),
             };
         };
         let done = apply(state, event);
@@ -40,13 +46,12 @@ pub fn each_event(out: &mut [u8], at: usize, first: State, log: &[u8]) -> Ended
     }
 }
 
-// The line that says where the reading stopped, if a record does not read.
-pub fn stop(out: &mut [u8], at: usize, log: &[u8]) -> usize
-    ensures { λ r. ⌜ sheet (now (out .exit)) r ≡ puts (sheet (now (out .entry)) at) (stopText (now (log .entry))) ⌝ }
+// The line that says where the reading stopped, if a record did not read.
+pub fn stop(out: &mut [u8], at: usize, ending: Ending) -> usize
+    ensures { λ r. ⌜ sheet (now (out .exit)) r ≡ puts (sheet (now (out .entry)) at) (stopBy ending) ⌝ }
 {
-    let left = rest(log);
-    let Reading::Refused(number) = read(left) else {
+    let Ending::Stopped { number, offset } = ending else {
         return at;
     };
-    refusal_lines::stop(out, at, number, log.len() - left.len())
+    refusal_lines::stop(out, at, number, offset)
 }

@@ -2,4 +2,5 @@
 pub mod Records
 pub mod Logs
 pub mod Rests
+pub mod Endings
 pub mod Going

@@ -31,6 +31,18 @@ rest-end s = (λ q. rest-empty s .0 (read-end (restOf s) .0 q), λ q. read-end (
 pub rest-silent : (s : List ℕ) (e : Event) → readRecord (restOf s) ≡ R.Event e → ⊥
 rest-silent s = stops-at s .silent
 
+-- so the number of its reading is at most 8
+pub rest-most : (s : List ℕ) → readSaid (readRecord (restOf s)) .number ≤ 8
+rest-most s = go (reads-is (restOf s))
+  where
+    go : {r : Reading} → Reads (restOf s) r → readSaid r .number ≤ 8
+    go (ended p) = omega arith
+    go (short p l) = omega arith
+    go (unmarked p m) = omega arith
+    go (unknown p m k) = omega arith
+    go (stray p m k z) = omega arith
+    go (whole p m r) = omega arith
+
 -- where it is not empty, reading it gives the refusal 5, 6, 7 or 8 that ended the reading
 pub rest-refused : (s : List ℕ) → 0 < length (restOf s)
     → (5 ≤ readSaid (readRecord (restOf s)) .number) × (readSaid (readRecord (restOf s)) .number ≤ 8)

@@ -5,6 +5,28 @@ ghost use mathlib.Core.Path.{_≡_};
 ghost use Prim.Native.Nat.{_*_};
 ghost use lib.ListN.{drop};
 ghost use Rattle.logs.specs.Log.{readable, readAt};
+ghost use Rattle.logs.specs.Ending.{endedBy};
+
+// What ended the reading of a log.
+pub enum Ending {
+    // No bytes were left.
+    Whole,
+    // The record at this offset does not read.
+    Stopped { number: u8, offset: usize },
+}
+
+// What a reading that is no event says of the end, at the offset where it was got.
+pub fn ended(got: Reading, offset: usize) -> Ending
+    ensures { λ r. ⌜ r ≡ endedBy got offset ⌝ }
+{
+    let Reading::Refused(number) = got else {
+        return Ending::Whole;
+    };
+    Ending::Stopped {
+        number: number,
+        offset: offset,
+    }
+}
 
 // The part of a log that was not read: it is empty, or begins with the first record that does not read.
 pub fn rest(log: &[u8]) -> &[u8]

@@ -4,6 +4,7 @@ use super::print::text;
 use effects::Answer;
 use engine::apply::apply;
 use events::Reading;
+use logs::Ending;
 use records::Record;
 use records::closing::window;
 use states::State;
@@ -67,6 +68,19 @@ fn tasks(state: State) {
     }
 }
 
+// Where the reading stopped, if it did.
+fn stop(ending: Ending) {
+    let Ending::Stopped {
+        number: n,
+        offset: o,
+    } = ending
+    else {
+        return;
+    };
+    number(b" stop ", n as u64);
+    number(b" at ", o as u64);
+}
+
 // The log as a whole ends as its events one by one do.
 fn whole(state: State, log: &[u8]) {
     text(b"last");
@@ -74,6 +88,8 @@ fn whole(state: State, log: &[u8]) {
     let said = ran.answer;
     answer(said);
     number(b" clock ", ran.state.clock);
+    let ending = ran.ending;
+    stop(ending);
     text(b"\n");
 }
 

@@ -21,7 +21,8 @@ fn accepted(out: &mut [u8], table: Table, log: &[u8]) -> usize
     let begun = start(table);
     let fresh = begun.state;
     let ended = each_event(out, a, fresh, log);
-    let b = stop(out, ended.place, log);
+    let ending = ended.ending;
+    let b = stop(out, ended.place, ending);
     let last = ended.state;
     ends(out, b, last, table.count)
 }

@@ -34,20 +34,25 @@ part-read-end c = search needs
 read-requires : tie.Need-read-requires Inv-loop μ-loop
 read-requires c κs = tt
 
-enum-known-event : tie.Need-enum-known-event Inv-loop μ-loop
-enum-known-event c = c .match .keys1
+enum-known-got : tie.Need-enum-known-got Inv-loop μ-loop
+enum-known-got c = c .match .keys1
+
+ended-requires : tie.Need-ended-requires Inv-loop μ-loop
+ended-requires c κs = tt
 
 same-length : tie.Need-same-length Inv-loop μ-loop
-same-length c = c .before .before .before .loop .inv .size
+same-length c = c .before .before .before .before .loop .inv .size
 
 returns : tie.Need-returns Inv-loop μ-loop
 returns c =
-    let l = c .before .before .before in
+    let r = c .before .before in
+    let l = r .before .before in
     let a = l .before .before .before .args in
     let s = a .log .now in
-    let e = c .before .read .ensures ∙ ap readRecord (tail-is s (l .loop .from)) in
-    listing-stop (a .out .now) (a .at) (a .first) s (l .loop .out) (l .loop .place) (l .loop .state) (l .loop .i) (l .loop .from) (l .loop .inv)
-    (λ x q. ⊎-elim (λ t. omega (arith, rw (e ∙ q) at t)) (λ t. omega (arith, rw (e ∙ q) at t)) (c .match .keys2))
+    let e = r .read .ensures ∙ ap readRecord (tail-is s (l .loop .from)) in
+    rw (c .ended .ensures, e)
+    (listing-stop (a .out .now) (a .at) (a .first) s (l .loop .out) (l .loop .place) (l .loop .state) (l .loop .i) (l .loop .from) (l .loop .inv)
+    (λ x q. ⊎-elim (λ t. omega (arith, rw (e ∙ q) at t)) (λ t. omega (arith, rw (e ∙ q) at t)) (c .before .match .keys2)))
 
 apply-requires : tie.Need-apply-requires Inv-loop μ-loop
 apply-requires c κs = tt
@@ -62,7 +67,7 @@ event-requires c κs = tt
 
 -- after a record that reads
 again : (c : tie.After-slice-known2 Inv-loop μ-loop)
-    → Listing (c .before .before .before .before .before .before .before .before .before .before .before .before .before .before .args .out .now) (c .before .before .before .before .before .before .before .before .before .before .before .before .before .before .args .at) (c .before .before .before .before .before .before .before .before .before .before .before .before .before .before .args .first) (c .before .before .before .before .before .before .before .before .before .before .before .before .before .before .args .log .now) (c .before .before .event2 .last .0) (c .before .before .event2 .result) (c .before .before .before .before .before .apply .result .state) (c .before .before .before .before .before .before .before .before .before .before .before .loop .i + 1) (c .before .before .before .before .before .before .before .before .before .before .before .loop .from + 20)
+    → Listing (c .before .before .before .before .before .before .before .before .before .before .before .before .before .before .args .out .now) (c .before .before .before .before .before .before .before .before .before .before .before .before .before .before .args .at) (c .before .before .before .before .before .before .before .before .before .before .before .before .before .before .args .first) (c .before .before .before .before .before .before .before .before .before .before .before .before .before .before .args .log .now) (c .before .before .event .last .0) (c .before .before .event .result) (c .before .before .before .before .before .apply .result .state) (c .before .before .before .before .before .before .before .before .before .before .before .loop .i + 1) (c .before .before .before .before .before .before .before .before .before .before .before .loop .from + 20)
 again c =
     let t = c .before .before in
     let p = t .before .before .before in
@@ -70,11 +75,11 @@ again c =
     let l = r .before .before in
     let a = l .before .before .before .args in
     let s = a .log .now in
-    let g = p .before .before .event .given in
+    let g = p .before .before .got .given in
     let e = ap readRecord (sym (tail-is s (l .loop .from))) ∙ sym (r .read .ensures) ∙ g .1 in
-    let d = t .event2 .ensures in
+    let d = t .event .ensures in
     rw (p .apply .ensures)
-    (listing-more (a .out .now) (a .at) (a .first) s (l .loop .out) (l .loop .place) (l .loop .state) (l .loop .i) (l .loop .from) (l .loop .inv) (g .0 .0) (t .event2 .last .0) (t .event2 .result) e (t .event2 .kept .0) (rw (p .apply .ensures) at d))
+    (listing-more (a .out .now) (a .at) (a .first) s (l .loop .out) (l .loop .place) (l .loop .state) (l .loop .i) (l .loop .from) (l .loop .inv) (g .0 .0) (t .event .last .0) (t .event .result) e (t .event .kept .0) (rw (p .apply .ensures) at d))
 
 add-from : tie.Need-add-from Inv-loop μ-loop
 add-from c = omega (arith, again c .going .within)
@@ -96,7 +101,8 @@ each-event-spec =
     part-read-start
     part-read-end
     read-requires
-    enum-known-event
+    enum-known-got
+    ended-requires
     same-length
     returns
     apply-requires

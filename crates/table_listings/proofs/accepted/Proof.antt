@@ -10,6 +10,7 @@ use Rattle.tables.specs.Judging.{judged}
 use Rattle.tables.proofs.Exactly.{judged-accepted}
 use Rattle.states.specs.declared.Started.{Started}
 use Rattle.states.specs.State.{freshState, started}
+use Rattle.listing_text.specs.LogLines.{stopText}
 use Rattle.listing_text.specs.Listing.{tableListing}
 use borrow.Author.Needs.{needs}
 use Rattle.table_listings.proofs.accepted.Statement.{statement}
@@ -43,7 +44,7 @@ same-length : tie.Need-same-length
 same-length c = search needs
 
 returns : tie.Need-returns
-unfolding tableListing
+unfolding tableListing stopText
 returns c =
     let n = c .before .before in
     let o = n .before .before .before .before .before in
@@ -55,9 +56,10 @@ returns c =
     let h = begun (a .table) (b .start .result) (f .pre) (b .start .ensures) in
     let e = v .each-event .ensures in
     let x = t .tasks .ensures in
+    let k = o .stop .ensures in
     let d = n .ends .ensures in
     let p = places (a .table) (f .pre) in
-    and-then (sheet (a .out .now) 0) _ _ (rw p at x) (and-then _ _ _ (rw h at (e .0)) (and-then _ _ _ (o .stop .ensures) (rw (e .1, h, p) at d)))
+    and-then (sheet (a .out .now) 0) _ _ (rw p at x) (and-then _ _ _ (rw h at (e .0)) (and-then _ _ _ (rw (e .1 .1) at k) (rw (e .1 .0, h, p) at d)))
 
 pub accepted-spec : {M : Type 1} → statement M
 accepted-spec =

@@ -8,13 +8,16 @@ use native.Mathlib.Omega.{arith}
 use borrow.Author.Needs.{needs}
 use lib.ListN.{length, getD, set}
 use Rattle.laws.proofs.Parts.{tail-is}
+use Rattle.events.specs.declared.Reading.{Reading}
 use Rattle.events.specs.Record.{readRecord}
+use Rattle.logs.specs.Ending.{endedBy, endingAt}
 use Rattle.jobs.specs.Opening.{expired, noRecord}
 use Rattle.states.specs.declared.State.{State}
 use Rattle.choices.proofs.Least.{best-within}
 use Rattle.rulings.proofs.Prompt.{seat-below}
 use Rattle.effects.specs.declared.Applied.{Applied}
 use Rattle.effects.specs.Apply.{moved, acted, applied}
+use Rattle.effects.specs.Log.{endedWith}
 use Rattle.engine.proofs.Rulings.{Decides, refused-by, accepted-by, decided}
 use Rattle.effects.proofs.Runs.{sound-acts, Running, running-none, running-more, running-stop}
 use Rattle.engine.proofs.Settled.{Settling, settling-none, settling-more, late-closed, prompt-stays, settled-accepted}
@@ -22,24 +25,24 @@ use Rattle.engine.proofs.acting.act.Statement.{statement}
 use Rattle.engine.proofs.acting.act.Tie as tie
 
 abbrev Inv-loop2 : tie.InvT-loop2
-Inv-loop2 log count next₀ event from at best₀ i₀ next best i =
+Inv-loop2 log start count next₀ event from at best₀ i₀ next best i =
     (i ≤ count)
     × ((next .count ≡ next₀ .count) × ((next .clock ≡ next₀ .clock) × Settling (next₀ .records) (event .time) i (next .records) best))
 
 abbrev μ-loop2 : tie.MeasureT-loop2
-μ-loop2 log count next₀ event from at best₀ i₀ next best i = count - i
+μ-loop2 log start count next₀ event from at best₀ i₀ next best i = count - i
 
 abbrev Inv-loop : tie.InvT-loop
-Inv-loop log count next₀ event₀ from₀ next event from = Running next₀ event₀ log from next event
+Inv-loop log start count next₀ event₀ from₀ next event from = Running next₀ event₀ log start next event from
 
 abbrev μ-loop : tie.MeasureT-loop
-μ-loop log count next₀ event₀ from₀ next event from = length log - from
+μ-loop log start count next₀ event₀ from₀ next event from = length log - from
 
 -- ---- an event's own task
 
 placed : (c : tie.After-seat Inv-loop2 μ-loop2 Inv-loop μ-loop) → c .seat .result < 16
 placed c =
-    let n = c .before .before .before .pre .counted in
+    let n = c .before .before .before .pre .0 .counted in
     rw (c .seat .ensures) (omega (arith, seat-below (c .before .loop .event .task) (c .before .before .before .args .state .count) (n .one), n .most))
 
 decides : (c : tie.After-rule Inv-loop2 μ-loop2 Inv-loop μ-loop)
@@ -52,7 +55,7 @@ decides c =
 
 -- the positions are at most the 16 places
 most : (c : tie.At-loop2 Inv-loop2 μ-loop2 Inv-loop μ-loop) → c .before .before .before .before .before .before .before .before .before .args .state .count ≤ 16
-most c = c .before .before .before .before .before .before .before .before .before .pre .counted .most
+most c = c .before .before .before .before .before .before .before .before .before .pre .0 .counted .most
 
 -- what a turn leaves of the state
 stepped : (c : tie.Joined2 Inv-loop2 μ-loop2 Inv-loop μ-loop)
@@ -76,7 +79,7 @@ passed c = omega (arith, c .before .loop2 .inv .0, c .loop2-test .left)
 chosen-placed : (c : tie.After-loop2 Inv-loop2 μ-loop2 Inv-loop μ-loop) → c .before .loop2 .best .at < 16
 chosen-placed c =
     let l = c .before .loop2 in
-    let n = c .before .before .before .before .before .before .before .before .before .before .pre .counted in
+    let n = c .before .before .before .before .before .before .before .before .before .before .pre .0 .counted in
     let g = l .inv .1 .1 .1 in
     rw (g .least) (omega (arith, best-within (l .next .records) (l .i) (omega (arith, passed c, n .one)), passed c, n .most))
 
@@ -111,7 +114,9 @@ body c =
 -- ---- the needs, in the code's order
 
 loop-holds : tie.Need-loop-holds Inv-loop2 μ-loop2 Inv-loop μ-loop
-loop-holds c = running-none (c .before .args .state) (c .before .args .first) (c .before .args .log .now) (c .before .pre)
+loop-holds c =
+    let a = c .before .args in
+    running-none (a .state) (a .first) (a .log .now) (a .start) (c .before .pre .0) (c .before .pre .1)
 
 seat-requires : tie.Need-seat-requires Inv-loop2 μ-loop2 Inv-loop μ-loop
 seat-requires c κs = search needs
@@ -210,29 +215,36 @@ part-read-end c = search needs
 read-requires : tie.Need-read-requires Inv-loop2 μ-loop2 Inv-loop μ-loop
 read-requires c κs = search needs
 
-enum-known-other : tie.Need-enum-known-other Inv-loop2 μ-loop2 Inv-loop μ-loop
-enum-known-other c = c .match .keys1
+enum-known-got : tie.Need-enum-known-got Inv-loop2 μ-loop2 Inv-loop μ-loop
+enum-known-got c = c .match .keys1
+
+ended-requires : tie.Need-ended-requires Inv-loop2 μ-loop2 Inv-loop μ-loop
+ended-requires c κs = search needs
 
 returns : tie.Need-returns Inv-loop2 μ-loop2 Inv-loop μ-loop
 returns c =
-    let j = c .before .before .before in
+    let r = c .before .before in
+    let j = r .before .before in
     let l = j .before .before .before .before .before .loop in
     let a = j .before .before .before .before .before .before .before .args in
-    let e = c .before .read .ensures ∙ ap readRecord (tail-is (a .log .now) (l .from)) in
-    sym (body j)
-    ∙ running-stop (a .state) (a .first) (a .log .now) (l .from) (l .next) (l .event) (l .inv)
-    (λ x q. ⊎-elim (λ t. omega (arith, rw (e ∙ q) at t)) (λ t. omega (arith, rw (e ∙ q) at t)) (c .match .keys2))
+    let e = r .read .ensures ∙ ap readRecord (tail-is (a .log .now) (l .from)) in
+    let d : c .ended .result ≡ endingAt (a .log .now) (l .from) = c .ended .ensures ∙ ap (λ (x : Reading). endedBy x (l .from)) e in
+    rw d
+    (ap (λ (x : Applied). endedWith x (endingAt (a .log .now) (l .from))) (sym (body j))
+    ∙ running-stop (a .state) (a .first) (a .log .now) (a .start) (l .next) (l .event) (l .from) (l .inv)
+    (λ x q. ⊎-elim (λ t. omega (arith, rw (e ∙ q) at t)) (λ t. omega (arith, rw (e ∙ q) at t)) (c .before .match .keys2)))
 
 -- after a record that reads
 again : (c : tie.After-known-told Inv-loop2 μ-loop2 Inv-loop μ-loop)
-    → Running (c .before .before .before .before .before .before .before .before .before .before .before .before .args .state) (c .before .before .before .before .before .before .before .before .before .before .before .before .args .first) (c .before .before .before .before .before .before .before .before .before .before .before .before .args .log .now) (c .before .before .before .before .before .before .before .before .before .before .loop .from + 20) (c .before .before .before .before .before .if1 .next) (c .before .other .given .0 .0)
+    → Running (c .before .before .before .before .before .before .before .before .before .before .before .before .args .state) (c .before .before .before .before .before .before .before .before .before .before .before .before .args .first) (c .before .before .before .before .before .before .before .before .before .before .before .before .args .log .now) (c .before .before .before .before .before .before .before .before .before .before .before .before .args .start) (c .before .before .before .before .before .if1 .next) (c .before .got .given .0 .0) (c .before .before .before .before .before .before .before .before .before .before .loop .from + 20)
 again c =
     let j = c .before .before .before .before .before in
     let l = j .before .before .before .before .before .loop in
     let a = j .before .before .before .before .before .before .before .args in
-    let g = c .before .other .given in
+    let g = c .before .got .given in
     let e = ap readRecord (sym (tail-is (a .log .now) (l .from))) ∙ sym (c .before .before .before .read .ensures) ∙ g .1 in
-    rw (← ap (λ (x : Applied). x .state) (body j)) (running-more (a .state) (a .first) (a .log .now) (l .from) (l .next) (l .event) (l .inv) (g .0 .0) e)
+    rw (← ap (λ (x : Applied). x .state) (body j))
+    (running-more (a .state) (a .first) (a .log .now) (a .start) (l .next) (l .event) (l .from) (l .inv) (g .0 .0) e)
 
 add-from : tie.Need-add-from Inv-loop2 μ-loop2 Inv-loop μ-loop
 add-from c = omega (arith, again c .going .within)
@@ -280,7 +292,8 @@ act-spec =
     part-read-start
     part-read-end
     read-requires
-    enum-known-other
+    enum-known-got
+    ended-requires
     returns
     add-from
     loop-less

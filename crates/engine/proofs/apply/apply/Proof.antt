@@ -1,5 +1,6 @@
 -- `apply::apply` meets its contract: a state that is not sound goes no further, and nothing follows the event.
 use mathlib.Core.Path.{sym, _∙_}
+use native.Mathlib.Omega.{arith}
 use Rattle.states.proofs.Sounding.{state-tells}
 use Rattle.effects.specs.Apply.{applied}
 use Rattle.effects.proofs.Runs.{ran-nothing}
@@ -14,19 +15,19 @@ slice-aggregate-act : tie.Need-slice-aggregate-act
 slice-aggregate-act c = search needs
 
 act-requires : tie.Need-act-requires
-act-requires c κs = state-tells (c .before .before .before .args .state) .holds (sym (c .before .before .is-sound .ensures) ∙ c .before .if1 .taken)
+act-requires c κs =
+    let s = c .before .before .before .args .state in
+    (state-tells s .holds (sym (c .before .before .is-sound .ensures) ∙ c .before .if1 .taken), omega arith)
 
 returns : tie.Need-returns
-returns c = c .act .ensures ∙ ran-nothing (applied (c .before .before .before .before .args .state) (c .before .before .before .before .args .event))
-
-refuse-requires : tie.Need-refuse-requires
-refuse-requires c κs = search needs
+returns c =
+    let a = c .before .before .before .before .before .args in
+    rw (c .before .act .ensures) (ran-nothing (applied (a .state) (a .event)))
 
 returns-2 : tie.Need-returns-2
 unfolding applied
-returns-2 c = c .refuse .ensures ∙ rw (sym (c .before .before .is-sound .ensures) ∙ c .before .if1 .left)
+returns-2 c = rw (sym (c .before .is-sound .ensures) ∙ c .if1 .left)
 
 pub apply-spec : {M : Type 1} → statement M
 apply-spec =
-    tie.close
-    (tie.spec is-sound-requires slice-aggregate-act act-requires returns refuse-requires returns-2)
+    tie.close (tie.spec is-sound-requires slice-aggregate-act act-requires returns returns-2)
