@@ -3,4 +3,5 @@ pub mod Values
 pub mod Plain
 pub mod While
 pub mod Rows
+pub mod Loans
 pub mod Locals
