@@ -18,7 +18,6 @@ use types.Kit.{Given, ‵, raw, _$_, _∵_, !, qed, by, move, keep, join, fsplit
 use denote.Laws.{Is}
 use denote.Plain.{uint-makes, bool-makes}
 use denote.Builtin.{u64, bool, unit}
-use denote.Ref.{RefT}
 use denote.Steps.{owned, nothing}
 use denote.Struct.Laws as LL
 use denote.Triple.Statement.{Contract}
@@ -33,7 +32,7 @@ use Rattle.records.proofs.closing.close as close
 use Rattle.jobs.proofs.opening.is_late as is-late
 use Rattle.lent.proofs.closing.close_in as close-in
 use Rattle.walks.proofs.Plain.{Gives, taken}
-use Rattle.walks.proofs.Loans.{Loan, lent-ref, GivesBack, returned, told}
+use Rattle.walks.proofs.Loans.{under, Loan, lent-ref, GivesBack, returned, told}
 
 module _ {M : Type 1} (𝓤 : URA M) (H : Heap 𝓤) (A : Atoms 𝓤) (at-mem : Memory → SProp 𝓤) (run : Routine → Fun 𝓤) where
   -- ---- contracts
@@ -53,12 +52,8 @@ module _ {M : Type 1} (𝓤 : URA M) (H : Heap 𝓤) (A : Atoms 𝓤) (at-mem : 
   abbrev pub to-is-late : (h : Record) (hv : Val) (t : ℕ) → IsLate .Ghost
   to-is-late h hv t = ((tt, tt, tt, (h, (t, tt)), (hv ∷ [], (vint w64 t ∷ [], tt))), tt)
 
-  -- the record h at (b, o), lent for ν under δ
-  abbrev lent-at : (h : Record) (b o : ℕ) → GName → RefT Record
-  lent-at h b o δ = record { ptr = (b, o); name = δ; now = h }
-
   abbrev pub to-close-in : (h : Record) (b o : ℕ) (m : Bool) → ℕ → GName → CloseIn .Ghost
-  to-close-in h b o m ν δ = (((ν ∷ [], tt), (fullShare, tt), tt, (lent-at h b o δ, (m, tt)), (vptr b o ∷ [], (vbool m ∷ [], tt))), tt)
+  to-close-in h b o m ν δ = (((ν ∷ [], tt), (fullShare, tt), tt, (under δ h b o, (m, tt)), (vptr b o ∷ [], (vbool m ∷ [], tt))), tt)
 
   module _ (W : Given 𝓤 H A) where
     -- ---- what a callee asks, plain data has for nothing
@@ -75,12 +70,12 @@ module _ {M : Type 1} (𝓤 : URA M) (H : Heap 𝓤) (A : Atoms 𝓤) (at-mem : 
         owned ! R.the-row (Is R.the-row) (LL.makes R.the-type R′.the-plain 𝓤 H A) h (hv ∷ []) h-is $ fjoin ! $ nothing ! $ join ! $ frame ! $ done !
 
     -- ---- and the rest a loan
-    abbrev at-loan : (h : Record) (b o : ℕ) → Loan 𝓤 H A Record
-    at-loan = lent-ref 𝓤 H A W R.the-row
+    abbrev one-lent : (h : Record) (b o : ℕ) → Loan 𝓤 H A Record
+    one-lent = lent-ref 𝓤 H A W R.the-row
 
-    pub goes-close-in : (h : Record) (b o : ℕ) (m : Bool) (ν : ℕ) (δ : GName) → ent 𝓤 (sep 𝓤 (A .lft (ν ∷ []) fullShare) (sem 𝓤 H A (at-loan h b o .own ν δ))) (CloseIn .pre (to-close-in h b o m ν δ))
+    pub goes-close-in : (h : Record) (b o : ℕ) (m : Bool) (ν : ℕ) (δ : GName) → ent 𝓤 (sep 𝓤 (A .lft (ν ∷ []) fullShare) (sem 𝓤 H A (one-lent h b o .own ν δ))) (CloseIn .pre (to-close-in h b o m ν δ))
     goes-close-in h b o m ν δ =
-        qed W (‵ (flft (ν ∷ []) fullShare) ∷ ‵ (at-loan h b o .own ν δ) ∷ []) ∵ nothing ! $ move ! (1 ∷ 0 ∷ []) $ join ! $
+        qed W (‵ (flft (ν ∷ []) fullShare) ∷ ‵ (one-lent h b o .own ν δ) ∷ []) ∵ nothing ! $ move ! (1 ∷ 0 ∷ []) $ join ! $
         nothing ! $ owned ! bool (Is bool) (bool-makes 𝓤 H A W) m (vbool m ∷ []) refl $ fjoin ! $ move ! (2 ∷ 0 ∷ []) $ fjoin ! $ move ! (1 ∷ 0 ∷ []) $ join ! $ frame ! $ done !
 
     -- ---- what it gives
@@ -92,7 +87,7 @@ module _ {M : Type 1} (𝓤 : URA M) (H : Heap 𝓤) (A : Atoms 𝓤) (at-mem : 
     is-late-gives h hv t w = taken 𝓤 H A W bool (λ r. r ≡ late h t) (ensured 𝓤 H A is-late.ended (is-late.clauses 𝓤 H A at-mem run) tt (h, (t, tt)) tt) w
         (λ r. exE 𝓤 _ (λ ws. snd∗ 𝓤 (sem 𝓤 H A (lasts is-late.ended tt (h, (t, tt)) ws)) (fact 𝓤 (r ≡ late h t))))
 
-    pub close-in-gives : (h : Record) (b o : ℕ) (m : Bool) → GivesBack 𝓤 H A (at-loan h b o) CloseIn (to-close-in h b o m) unit (λ _ z. z ≡ closed h m)
-    close-in-gives h b o m ν δ w = returned 𝓤 H A W ν unit (at-loan h b o .last δ) (λ _ z. z ≡ closed h m) (ensured 𝓤 H A close-in.ended (close-in.clauses 𝓤 H A at-mem run) (ν ∷ [], tt) (lent-at h b o δ, (m, tt)) tt) w
-        (λ _. exE 𝓤 _ (λ ws. qed W (‵ (lasts close-in.ended (ν ∷ [], tt) (lent-at h b o δ, (m, tt)) ws) ∷ raw (fact 𝓤 (ws .0 ≡ closed h m)) ∷ []) ∵ fsplit ! $ keep ! (0 ∷ 2 ∷ []) $
-        by ! (told 𝓤 H A W (at-loan h b o .last δ) (λ z. z ≡ closed h m) (λ z. z ≡ closed h m) (ws .0) (λ p. p))))
+    pub close-in-gives : (h : Record) (b o : ℕ) (m : Bool) → GivesBack 𝓤 H A (one-lent h b o) CloseIn (to-close-in h b o m) unit (λ _ z. z ≡ closed h m)
+    close-in-gives h b o m ν δ w = returned 𝓤 H A W ν unit (one-lent h b o .last δ) (λ _ z. z ≡ closed h m) (ensured 𝓤 H A close-in.ended (close-in.clauses 𝓤 H A at-mem run) (ν ∷ [], tt) (under δ h b o, (m, tt)) tt) w
+        (λ _. exE 𝓤 _ (λ ws. qed W (‵ (lasts close-in.ended (ν ∷ [], tt) (under δ h b o, (m, tt)) ws) ∷ raw (fact 𝓤 (ws .0 ≡ closed h m)) ∷ []) ∵ fsplit ! $ keep ! (0 ∷ 2 ∷ []) $
+        by ! (told 𝓤 H A W (one-lent h b o .last δ) (λ z. z ≡ closed h m) (λ z. z ≡ closed h m) (ws .0) (λ p. p))))

@@ -1,5 +1,4 @@
 -- A call of a function to which something in memory is lent is one step of a walk: the walk makes a lifetime, lends for it, ends it once the call has returned, and has back what was lent, at its last value.
-use mathlib.Core.Path.{_≡_}
 use Prim.Native.Nat.{ℕ}
 use mathlib.Core.List.{List, [], _∷_}
 use lib.ListN.{length}
@@ -21,7 +20,7 @@ use types.Run.{Opds}
 use denote.RattleType.{RattleType}
 use denote.Laws.{Is, shows}
 use denote.Memory.{mem, shares}
-use denote.Ref.{MutRef}
+use denote.Ref.{RefT, MutRef}
 use denote.Slice.{sliceVal, MutSlice, ShrSlice, Room, finally}
 use denote.Index.{row}
 use denote.Lend.{Held, lends-ref, ref-back}
@@ -30,6 +29,10 @@ use denote.Triple.Statement.{Contract, Triple}
 use denote.Triple.Call.{calls-at, calls-at-last}
 use denote.Triple.Walked.{says}
 use Rattle.walks.proofs.Rows.{shares-row, shared-back, lends-row, row-back}
+
+-- what lies at (b, o), lent under the name δ
+abbrev pub under : {X : Type 0} → GName → X → ℕ → ℕ → RefT X
+under δ x b o = record { ptr = (b, o); name = δ; now = x }
 
 -- what is lent: what lies there, what the reference owns for a lifetime under a name, the lender's part, what says the last value, and what then lies there
 pub record Loan {M : Type 1} (𝓤 : URA M) (H : Heap 𝓤) (A : Atoms 𝓤) (Z : Type 0) : Type 1 where
@@ -47,7 +50,7 @@ module _ {M : Type 1} (𝓤 : URA M) (H : Heap 𝓤) (A : Atoms 𝓤) (W : Given
   lent-ref h b o =
       record {
         here = mem R .lies h b o;
-        own = λ ν δ. MutRef (named 0) (ν ∷ []) R .own (record { ptr = (b, o); name = δ; now = h }) (vptr b o ∷ []);
+        own = λ ν δ. MutRef (named 0) (ν ∷ []) R .own (under δ h b o) (vptr b o ∷ []);
         part = λ δ. Held-at (mem R) b o δ;
         last = λ δ z. fres δ (R .coded .code z);
         after = λ z. mem R .lies z b o;
@@ -60,7 +63,7 @@ module _ {M : Type 1} (𝓤 : URA M) (H : Heap 𝓤) (A : Atoms 𝓤) (W : Given
   lent-row ys b o room =
       record {
         here = row R fullShare ys b o;
-        own = λ ν δ. MutSlice (named 0) (ν ∷ []) R .own (record { ptr = (b, o); name = δ; now = ys }) (sliceVal (b, o) (length ys) ∷ []);
+        own = λ ν δ. MutSlice (named 0) (ν ∷ []) R .own (under δ ys b o) (sliceVal (b, o) (length ys) ∷ []);
         part = λ δ. Held R (length ys) b o δ;
         last = λ δ zs. finally R δ zs;
         after = λ zs. row R fullShare zs b o;
@@ -73,7 +76,7 @@ module _ {M : Type 1} (𝓤 : URA M) (H : Heap 𝓤) (A : Atoms 𝓤) (W : Given
   shared-row ys b o room =
       record {
         here = row R fullShare ys b o;
-        own = λ ν δ. ShrSlice (named 0) (ν ∷ []) R .own (record { ptr = (b, o); name = δ; now = ys }) (sliceVal (b, o) (length ys) ∷ []);
+        own = λ ν δ. ShrSlice (named 0) (ν ∷ []) R .own (under δ ys b o) (sliceVal (b, o) (length ys) ∷ []);
         part = λ δ. arr-parts (shares R) (length ys) .part fullShare ys b o;
         last = λ δ z. ftrue;
         after = λ z. row R fullShare ys b o;
