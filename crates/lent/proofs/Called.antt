@@ -46,8 +46,8 @@ module _ {M : Type 1} (𝓤 : URA M) (H : Heap 𝓤) (A : Atoms 𝓤) (at-mem : 
   CloseIn = tripleOf 𝓤 H A close-in.signature (close-in.spec 𝓤 H A at-mem run)
 
   -- ---- what is bound at a call
-  abbrev pub to-close : (h : Record) (hv : Val) (m : Bool) (mv : Val) → Close .Ghost
-  to-close h hv m mv = ((tt, tt, tt, (h, (m, tt)), (hv ∷ [], (mv ∷ [], tt))), tt)
+  abbrev pub to-close : (h : Record) (hv : Val) (m : Bool) → Close .Ghost
+  to-close h hv m = ((tt, tt, tt, (h, (m, tt)), (hv ∷ [], (vbool m ∷ [], tt))), tt)
 
   abbrev pub to-is-late : (h : Record) (hv : Val) (t : ℕ) → IsLate .Ghost
   to-is-late h hv t = ((tt, tt, tt, (h, (t, tt)), (hv ∷ [], (vint w64 t ∷ [], tt))), tt)
@@ -57,10 +57,10 @@ module _ {M : Type 1} (𝓤 : URA M) (H : Heap 𝓤) (A : Atoms 𝓤) (at-mem : 
 
   module _ (W : Given 𝓤 H A) where
     -- ---- what a callee asks, plain data has for nothing
-    pub goes-close : (h : Record) (hv : Val) (m : Bool) (mv : Val) → Is R.the-row h (hv ∷ []) → Is bool m (mv ∷ []) → ent 𝓤 (emp 𝓤) (Close .pre (to-close h hv m mv))
-    goes-close h hv m mv h-is m-is =
+    pub goes-close : (h : Record) (hv : Val) (m : Bool) → Is R.the-row h (hv ∷ []) → ent 𝓤 (emp 𝓤) (Close .pre (to-close h hv m))
+    goes-close h hv m h-is =
         qed W [] ∵ nothing ! $
-        owned ! bool (Is bool) (bool-makes 𝓤 H A W) m (mv ∷ []) m-is $ fjoin ! $
+        owned ! bool (Is bool) (bool-makes 𝓤 H A W) m (vbool m ∷ []) refl $ fjoin ! $
         owned ! R.the-row (Is R.the-row) (LL.makes R.the-type R′.the-plain 𝓤 H A) h (hv ∷ []) h-is $ fjoin ! $ nothing ! $ join ! $ frame ! $ done !
 
     pub goes-is-late : (h : Record) (hv : Val) (t : ℕ) → Is R.the-row h (hv ∷ []) → t < 2 ^ 64 → ent 𝓤 (emp 𝓤) (IsLate .pre (to-is-late h hv t))
@@ -79,8 +79,8 @@ module _ {M : Type 1} (𝓤 : URA M) (H : Heap 𝓤) (A : Atoms 𝓤) (at-mem : 
         nothing ! $ owned ! bool (Is bool) (bool-makes 𝓤 H A W) m (vbool m ∷ []) refl $ fjoin ! $ move ! (2 ∷ 0 ∷ []) $ fjoin ! $ move ! (1 ∷ 0 ∷ []) $ join ! $ frame ! $ done !
 
     -- ---- what it gives
-    pub close-gives : (h : Record) (hv : Val) (m : Bool) (mv : Val) → Gives 𝓤 H A Close (to-close h hv m mv) R.the-row (λ r. r ≡ closed h m)
-    close-gives h hv m mv w = taken 𝓤 H A W R.the-row (λ r. r ≡ closed h m) (ensured 𝓤 H A close.ended (close.clauses 𝓤 H A at-mem run) tt (h, (m, tt)) tt) w
+    pub close-gives : (h : Record) (hv : Val) (m : Bool) → Gives 𝓤 H A Close (to-close h hv m) R.the-row (λ r. r ≡ closed h m)
+    close-gives h hv m w = taken 𝓤 H A W R.the-row (λ r. r ≡ closed h m) (ensured 𝓤 H A close.ended (close.clauses 𝓤 H A at-mem run) tt (h, (m, tt)) tt) w
         (λ r. exE 𝓤 _ (λ ws. snd∗ 𝓤 (sem 𝓤 H A (lasts close.ended tt (h, (m, tt)) ws)) (fact 𝓤 (r ≡ closed h m))))
 
     pub is-late-gives : (h : Record) (hv : Val) (t : ℕ) → Gives 𝓤 H A IsLate (to-is-late h hv t) bool (λ r. r ≡ late h t)

@@ -1,5 +1,6 @@
 -- The steps that walks share.
 pub mod Values
+pub mod Operands
 pub mod Plain
 pub mod While
 pub mod Rows
