@@ -28,7 +28,7 @@ module _ (l : List Record) (t : ℕ) where
       ap (set m i) (d ∙ ap (λ (x : Record). expired x t) there) ∙ ap (λ (x : List Record). set x i (one i)) e ∙ ap (λ (k : ℕ). filled one k l) (sym (add-one i))
 
   pub row-expired : ExpiredBy t l (expiredRow l t)
-  row-expired = record { long = length-filled one l noRecord (length l); each = λ i h. filled-below one l noRecord (length l) i (le-refl (length l)) h }
+  row-expired = record { long = length-filled one l noRecord _; each = λ i h. filled-below one l noRecord _ i (le-refl (length l)) h }
 
   -- no other row is
   pub row-exactly : (m : List Record) → ExpiredBy t l m → m ≡ expiredRow l t

@@ -116,6 +116,13 @@ module _ {M : Type 1} {𝓤 : URA M} {H : Heap 𝓤} {A : Atoms 𝓤} {K : Type 
         → ((v : Val) (r : D .Denot) (z : Z) → φ r z → Is D r (v ∷ []) → Seq K W (‵ (l .after z) ∷ Γ) (lands C Λ E d v rest q)) → Seq K W (‵ (l .here) ∷ Γ) (runs C Λ E (seq (call f xs d) rest) q)
     calls-lent t fm l c met x goes D φ gives os k = lends-for t tt l c x goes (λ ν δ. calls-at t fm c met (x ν δ) (os ν δ) (λ v. has-back t tt l c x D φ gives ν δ v (k v)))
 
+    -- the same with the operands first, where one of them is read off the code and says what is bound
+    pub calls-lent-read : {rest : Body} → K → FmC 𝓤 H (W .laws) C → (l : Loan 𝓤 H A Z) (c : Contract 𝓤) → Triple 𝓤 (C f) c → (x : ℕ → GName → c .Ghost)
+        → ((ν : ℕ) (δ : GName) → Opds K W (raw (c .pre (x ν δ)) ∷ ‵ (flent (ν ∷ []) (l .part δ)) ∷ Γ) E xs (c .args (x ν δ)))
+        → ((ν : ℕ) (δ : GName) → ent 𝓤 (sep 𝓤 (A .lft (ν ∷ []) fullShare) (sem 𝓤 H A (l .own ν δ))) (c .pre (x ν δ))) → (D : RattleType) (φ : D .Denot → Z → Type 0) → GivesBack 𝓤 H A l c x D φ
+        → ((v : Val) (r : D .Denot) (z : Z) → φ r z → Is D r (v ∷ []) → Seq K W (‵ (l .after z) ∷ Γ) (lands C Λ E d v rest q)) → Seq K W (‵ (l .here) ∷ Γ) (runs C Λ E (seq (call f xs d) rest) q)
+    calls-lent-read t fm l c met x os goes D φ gives k = calls-lent t fm l c met x goes D φ gives os k
+
     -- the same where the call ends a block
     pub calls-lent-last : K → FmC 𝓤 H (W .laws) C → (l : Loan 𝓤 H A Z) (c : Contract 𝓤) → Triple 𝓤 (C f) c → (x : ℕ → GName → c .Ghost)
         → ((ν : ℕ) (δ : GName) → ent 𝓤 (sep 𝓤 (A .lft (ν ∷ []) fullShare) (sem 𝓤 H A (l .own ν δ))) (c .pre (x ν δ))) → (D : RattleType) (φ : D .Denot → Z → Type 0) → GivesBack 𝓤 H A l c x D φ

@@ -43,7 +43,7 @@ use Rattle.jobs.specs.Opening.{late, expired}
 use Rattle.records.proofs.Record as R
 use Rattle.records.proofs.Record.Laws as R′
 use Rattle.walks.proofs.Values.{record-val, record-vals}
-use Rattle.walks.proofs.Operands.{reads}
+use Rattle.walks.proofs.Operands.{reads-bool}
 use Rattle.walks.proofs.Plain.{calls-plain}
 use Rattle.walks.proofs.Loans.{lent-ref, calls-lent-last}
 use Rattle.walks.proofs.Locals.{cell-lies}
@@ -143,7 +143,7 @@ module _ {M : Type 1} (𝓤 : URA M) (H : Heap 𝓤) (A : Atoms 𝓤) (W : Given
           assigns ! (addr ! (from ! (hop ! (look ! (4 + L 1) refl) (stop !)))) (from ! (stop !)) (init ! (4 + L 6) refl (tt, tt)) $
           calls-lent-last ! fm (lent-ref 𝓤 H A W R.the-row h b o) (CloseIn 𝓤 H A at-mem run) (known .close-in) (to-close-in 𝓤 H A at-mem run h b o _) (goes-close-in 𝓤 H A at-mem run W h b o _)
           unit (λ _ z. z ≡ closed h _) (close-in-gives 𝓤 H A at-mem run W h b o _)
-          (λ ν δ. and-then ! (load ! (from ! (stop !)) (look ! (5 + L 6) refl)) (and-then ! (reads ! (λ k. 5 + L k) [] tt refl) (no-more !))) (λ w u z e is.
+          (λ ν δ. and-then ! (load ! (from ! (stop !)) (look ! (5 + L 6) refl)) (and-then ! (reads-bool ! (λ k. 5 + L k) [] tt refl) (no-more !))) (λ w u z e is.
           land-last ! (from ! (stop !)) (init ! (4 + L 5) refl (nothing-lawful 𝓤 H A W .typed u _ is .0)) $ exec ! C Λ En body.t-4 (atRet En Post) $
           forget ! (4 + L 6) refl $ forget ! (4 + L 5) refl $ forget ! (4 + L 3) refl $ ends z (late-closed h t y told held z e)))
           (λ failed. skips ! $ exec ! C Λ En body.t-4 (atRet En Post) $ forget ! (4 + L 3) refl $ ends h (prompt-stays h t y told failed))

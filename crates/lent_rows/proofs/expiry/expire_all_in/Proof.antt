@@ -4,6 +4,7 @@ use mathlib.Core.Path.{_≡_, refl, sym, ap, subst, _∙_}
 use Prim.Native.Nat.{ℕ, _+_, _*_, _-_, _≤_, _<_, _^_, zero-le}
 use native.Mathlib.Nat.{le-antisymm, lt-of-le-of-lt}
 use native.Mathlib.Numerals.{add-one-le, add-one-dec}
+use native.Mathlib.Omega.{arith}
 use mathlib.Core.WellFounded.{WellFounded, InvImage·wf}
 use mathlib.Core.List.{List, [], _∷_}
 use lib.Dec.{T, ltb, ltb→lt, nltb→le, lit<}
@@ -48,8 +49,9 @@ use Rattle.records.specs.declared.Record.{Record}
 use Rattle.jobs.specs.Opening.{expired, noRecord}
 use Rattle.lent_rows.specs.Expiry.{expiredRow}
 use Rattle.records.proofs.Record as R
+use Rattle.walks.proofs.Operands.{reads-number}
 use Rattle.walks.proofs.While.{tests, scaled}
-use Rattle.walks.proofs.Loans.{under, lent-ref, calls-lent}
+use Rattle.walks.proofs.Loans.{under, lent-ref, calls-lent-read}
 use Rattle.lent_rows.proofs.Called.{ExpireIn, to-expire-in, goes-expire-in, expire-in-gives}
 use Rattle.lent_rows.proofs.Expired.{one, none-passed, one-passed}
 use Rattle.lent.proofs.closing.expire_in.Symbol as expire-in-def
@@ -164,9 +166,9 @@ module _ {M : Type 1} (𝓤 : URA M) (H : Heap 𝓤) (A : Atoms 𝓤) (W : Given
           assigns ! (addr ! (from ! (hop ! (look ! (L 7) refl) (stop !)))) (from ! (stop !)) (init ! (L 8) refl (tt, tt)) $
           use1 W (‵ (partAt R.the-row fullShare of b pl) ⊛ ‵ (others (shares R.the-row) fullShare (s .zs) (s .i) b o)) (takes (shares R.the-row) fullShare 𝓤 H A W (s .zs) (s .i) noRecord b o (within less)) $ split ! $
           -- [row[i]; the others; the locals, 1 + L k; …]
-          calls-lent ! fm (lent-ref 𝓤 H A W R.the-row of b pl) (ExpireIn 𝓤 H A at-mem run) known (to-expire-in 𝓤 H A at-mem run of b pl t) (goes-expire-in 𝓤 H A at-mem run W of b pl t t-fits)
-          unit (λ _ z. z ≡ expired of t) (expire-in-gives 𝓤 H A at-mem run W of b pl t)
-          (λ ν δ. and-then ! (load ! (from ! (stop !)) (look ! (2 + L 8) refl)) (and-then ! (load ! (from ! (stop !)) (look ! (2 + L 2) refl)) (no-more !))) (λ v u z expires is.
+          calls-lent-read ! fm (lent-ref 𝓤 H A W R.the-row of b pl) (ExpireIn 𝓤 H A at-mem run) known (to-expire-in 𝓤 H A at-mem run of b pl _)
+          (λ ν δ. and-then ! (load ! (from ! (stop !)) (look ! (2 + L 8) refl)) (and-then ! (reads-number ! (λ k. 2 + L k) (0 ∷ 0 ∷ t ∷ s .i ∷ []) tt refl) (no-more !)))
+          (goes-expire-in 𝓤 H A at-mem run W of b pl _ (omega (arith, t-fits))) unit (λ _ z. z ≡ expired of _) (expire-in-gives 𝓤 H A at-mem run W of b pl _) (λ v u z expires is.
           land ! (from ! (stop !)) (init ! (1 + L 6) refl (nothing-lawful 𝓤 H A W .typed u _ is .0)) $
           use2 W (‵ (row R.the-row fullShare (set (s .zs) (s .i) z) b o)) (puts (shares R.the-row) fullShare 𝓤 H A W (s .zs) (s .i) z b o (within less)) $
           assigns-last ! (bin ! (load ! (from ! (stop !)) (look ! (L 3) refl)) (lit ! tt) (record { fits = next-fits less })) (from ! (stop !)) (store ! (L 3) refl (tt, record { fits = next-fits less })) $
