@@ -1,6 +1,7 @@
 -- `apply_in` meets its contract: a walk of its MIR, by hand. The borrow is opened once. What lies behind it is lent to `rule_in`, shared, and where the event is accepted to `settle_in`, and comes back each time; the borrow is closed at the end.
 use mathlib.Core.Path.{_≡_, refl, sym, ap, subst}
 use Prim.Native.Nat.{ℕ, _+_, _*_, _-_, _<_, _^_}
+use native.Mathlib.Omega.{arith}
 use mathlib.Core.List.{List, [], _∷_}
 use lib.Dec.{eqb}
 use lib.ListN.{length}
@@ -58,7 +59,8 @@ use Rattle.turns.proofs.Turn as U
 use Rattle.turns.proofs.Turn.Laws as U′
 use Rattle.walks.proofs.Values.{record-vals}
 use Rattle.in_place.proofs.Called.{row-val, event-val, event-vals, ruling-val, AcceptedTurn, RefusedTurn, to-accepted-turn, to-refused-turn, goes-accepted-turn, goes-refused-turn, accepted-turn-gives, refused-turn-gives}
-use Rattle.walks.proofs.Plain.{calls-plain-last}
+use Rattle.walks.proofs.Operands.{reads-number}
+use Rattle.walks.proofs.Plain.{calls-plain-last, calls-read-last}
 use Rattle.walks.proofs.Loans.{under, Loan, lent-row, shared-row, GivesBack, returned, told, calls-lent}
 use Rattle.turns.proofs.Turns.{Said, accepted-some, says-accepted, says-refused}
 use Rattle.in_place.proofs.apply.rule_in as rule-in
@@ -224,9 +226,9 @@ module _ {M : Type 1} (𝓤 : URA M) (H : Heap 𝓤) (A : Atoms 𝓤) (W : Given
           forget ! (4 + L 11) refl $ forget ! (4 + L 10) refl $ forget ! (4 + L 8) refl $ forget ! (4 + L 5) refl $
           ends u v zs is′ (settles .0) (says-accepted ys c e r z accepts x zs (settles .1) u turns))))
           (λ refuses.
-          calls-plain-last ! fm (RefusedTurn 𝓤 H A at-mem run) (known .refused-turn) (to-refused-turn 𝓤 H A at-mem run r (ruling-val r) c) (goes-refused-turn 𝓤 H A at-mem run W r (ruling-val r) c is c-fits)
-          U.the-row (λ u. u ≡ refusedTurn r c) (refused-turn-gives 𝓤 H A at-mem run W r (ruling-val r) c)
-          (and-then ! (load ! (from ! (stop !)) (look ! (5 + L 4) refl)) (and-then ! (load ! (from ! (stop !)) (look ! (5 + L 2) refl)) (no-more !))) (λ v u turns is′.
+          calls-read-last ! fm (RefusedTurn 𝓤 H A at-mem run) (known .refused-turn) (to-refused-turn 𝓤 H A at-mem run r (ruling-val r) _)
+          (and-then ! (load ! (from ! (stop !)) (look ! (5 + L 4) refl)) (and-then ! (reads-number ! (λ j. 5 + L j) (0 ∷ 0 ∷ c ∷ []) tt refl) (no-more !)))
+          (goes-refused-turn 𝓤 H A at-mem run W r (ruling-val r) _ is (omega (arith, c-fits))) U.the-row (λ u. u ≡ refusedTurn r _) (refused-turn-gives 𝓤 H A at-mem run W r (ruling-val r) _) (λ v u turns is′.
           land-last ! (from ! (stop !)) (init ! (4 + L 9) refl (LL.lawful U.the-type U′.the-laws 𝓤 H A W .typed u _ is′ .0)) $ exec ! C Λ En body.t-6 (atRet En Post) $
           forget ! (4 + L 8) refl $
           ends u v ys is′ refl (says-refused ys c e r z refuses u turns)))
