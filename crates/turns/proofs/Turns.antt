@@ -22,6 +22,7 @@ use Rattle.effects.specs.declared.Answer.{Answer}
 use Rattle.effects.specs.declared.Answer.the-variants.{Refused}
 use Rattle.effects.specs.declared.Applied.{Applied}
 use Rattle.rulings.specs.declared.Ruling.{Ruling}
+use Rattle.effects.specs.Steps.{expiredAll}
 use Rattle.effects.specs.Apply.{toldOf, answerOf, moved, refused, acted, applied}
 use Rattle.rulings.specs.Ruling.{ruled}
 use Rattle.effects.proofs.Frame.{refused-stays}
@@ -29,8 +30,14 @@ use Rattle.engine.proofs.Rulings.{Accepts, refused-by, accepted-by, decided}
 use Rattle.engine.proofs.Settled.{settledTo, stored-first}
 use Rattle.turns.specs.declared.Turn.{Turn}
 use Rattle.lent_rows.specs.Row.{stateOf}
+use Rattle.lent_rows.specs.Expiry.{expiredRow}
 use Rattle.lent_rows.proofs.Expired.{row-expired}
 use Rattle.turns.specs.Turns.{seatIn, ruledRow, unsound, storedRow, settledRow, rowAnswer, acceptedTurn, refusedTurn}
+
+-- ---- step 1 over the row is that of the row's state
+
+pub row-step : (l : List Record) (c t : ℕ) → expiredAll (stateOf l c) t ≡ expiredRow l t
+row-step l c t = refl
 
 -- ---- the choice over a settled row
 
