@@ -1,10 +1,9 @@
 // Applying an event in place, over a lent row and a clock: no copy of the row is made, and a refused event stores nothing.
-use choices::better_of;
 use effects::Answer;
 use effects::Applied;
 use events::Event;
-use jobs::opening::expire;
-use lent_rows::choice::no_best;
+use lent_rows::choice::choose_in;
+use lent_rows::expiry::expire_all_in;
 use lent_rows::sound::is_sound_in;
 use records::Record;
 use rulings::Ruling;
@@ -36,7 +35,7 @@ fn rule_in(row: &[Record], clock: u64, event: Event) -> Ruling
     }
 }
 
-// The event is accepted: its task's record is stored, each late record is closed, and the choice is told.
+// The event is accepted: its task's record is stored, each late record is closed where it stands, and the choice over the row is told.
 fn settle_in(row: &mut [Record], event: Event, after: Record) -> Answer
     requires { ⌜ 0 < length (now row) ⌝ }
     ensures { λ r. ⌜ (r ≡ rowAnswer (now (row .exit)))
@@ -44,14 +43,8 @@ fn settle_in(row: &mut [Record], event: Event, after: Record) -> Answer
 {
     let at = seat_of(event, row.len());
     row[at] = after;
-    let mut best = no_best();
-    let mut i: usize = 0;
-    while i < row.len() {
-        let one = expire(row[i], event.time);
-        row[i] = one;
-        best = better_of(best, one, i);
-        i += 1;
-    }
+    expire_all_in(&mut *row, event.time);
+    let best = choose_in(&*row);
     told_of(best, row[best.at])
 }
 

@@ -1,13 +1,24 @@
 // Closing a job updates that task's record where it stands.
+use jobs::opening::is_late;
 use records::Record;
 use records::closing::close;
 ghost use mathlib.Core.Path.{_≡_};
 ghost use Rattle.records.specs.Closing.{closed};
+ghost use Rattle.jobs.specs.Opening.{expired};
 
 pub fn close_in(of: &mut Record, met: bool)
     ensures { λ _. ⌜ now (of .exit) ≡ closed (now (of .entry)) met ⌝ }
 {
     *of = close(*of, met);
+}
+
+// Step 1 for one record: a late job is closed as missed.
+pub fn expire_in(of: &mut Record, time: u64)
+    ensures { λ _. ⌜ now (of .exit) ≡ expired (now (of .entry)) time ⌝ }
+{
+    if is_late(*of, time) {
+        close_in(of, false);
+    }
 }
 
 // The same by value: its contract says nothing of a reference, so whoever calls it needs no walk.

@@ -1,56 +1,52 @@
 -- An event in place comes to what the engine's `applied` says of the row's state: by the ruling on the event's own record, and by the row settled position by position.
-use Prim.Native.Nat.{ℕ, suc, min, _+_, _<_}
+use Prim.Native.Nat.{ℕ, min, _<_}
 use mathlib.Core.Path.{_≡_, refl, sym, ap, subst, _∙_}
 use mathlib.Core.Bool.{Bool, true, false, not, cond}
 use mathlib.Core.List.{List}
 use native.Mathlib.Nat.{le-refl}
-use native.Mathlib.Numerals.{add-one}
 use native.Mathlib.Omega.{arith}
 use borrow.Author.Tests.{eqb-true, eqb-false}
 use lib.Dec.{T, eqb}
 use lib.ListN.{length, getD, set, length-set}
-use lib.Seq.{getD-set-same}
-use Rattle.laws.proofs.Stores.{length-filled}
 use Rattle.laws.proofs.Tests.{tells-true}
 use Rattle.events.specs.declared.Event.{Event}
 use Rattle.records.specs.declared.Record.{Record}
-use Rattle.jobs.specs.Opening.{expired, noRecord}
+use Rattle.jobs.specs.Opening.{noRecord}
 use Rattle.choices.specs.declared.Best.{Best}
 use Rattle.states.specs.declared.State.{State}
 use Rattle.states.specs.Sound.{StateSound, stateHolds}
-use Rattle.choices.specs.Choice.{better, bestTo}
+use Rattle.choices.specs.Choice.{bestTo}
 use Rattle.choices.proofs.Least.{best-within}
 use Rattle.states.proofs.Sounding.{state-tells}
 use Rattle.effects.specs.declared.Answer.{Answer}
 use Rattle.effects.specs.declared.Answer.the-variants.{Refused}
 use Rattle.effects.specs.declared.Applied.{Applied}
 use Rattle.rulings.specs.declared.Ruling.{Ruling}
+use Rattle.effects.specs.Steps.{expiredAll}
 use Rattle.effects.specs.Apply.{toldOf, answerOf, moved, refused, acted, applied}
 use Rattle.rulings.specs.Ruling.{ruled}
 use Rattle.effects.proofs.Frame.{refused-stays}
 use Rattle.engine.proofs.Rulings.{Accepts, refused-by, accepted-by, decided}
-use Rattle.engine.proofs.Settled.{settledTo, Settling, settling-more, stored-first}
+use Rattle.engine.proofs.Settled.{settledTo, stored-first}
 use Rattle.turns.specs.declared.Turn.{Turn}
 use Rattle.lent_rows.specs.Row.{stateOf}
+use Rattle.lent_rows.specs.Expiry.{expiredRow}
+use Rattle.lent_rows.proofs.Expired.{row-expired}
 use Rattle.turns.specs.Turns.{seatIn, ruledRow, unsound, storedRow, settledRow, rowAnswer, acceptedTurn, refusedTurn}
 
--- ---- the loop that settles a row
+-- ---- step 1 over the row is that of the row's state
 
--- one turn, with the code's i + 1
-pub settles-on : (l : List Record) (t i : ℕ) (zs : List Record) (best : Best) → i < length zs → Settling l t i zs best
-    → (r : Record) → r ≡ expired (getD zs i noRecord) t → (best′ : Best) → best′ ≡ better best r i → Settling l t (i + 1) (set zs i r) best′
-settles-on l t i zs best h g r e best′ e′ =
-    let more : Settling l t (suc i) (set zs i r) (better best (getD (set zs i r) i noRecord) i) = settling-more l t i zs best g (set zs i r) (ap (set zs i) e) in
-    let same : better best (getD (set zs i r) i noRecord) i ≡ best′ = ap (λ (x : Record). better best x i) (getD-set-same zs i r noRecord h) ∙ sym e′ in
-    subst (λ (k : ℕ). Settling l t k (set zs i r) best′) (sym (add-one i)) (subst (λ (b : Best). Settling l t (suc i) (set zs i r) b) same more)
+pub row-step : (l : List Record) (c t : ℕ) → expiredAll (stateOf l c) t ≡ expiredRow l t
+row-step l c t = refl
 
--- what the walk has after the loop: the chosen place is one of the row's, and the answer and the row are those of the specs
-pub settled-at : (l : List Record) (t n : ℕ) (zs : List Record) (best : Best) → length zs ≡ n → 0 < n → Settling l t n zs best → best .at < n
-settled-at l t n zs best len h g = subst (λ (b : Best). b .at < n) (sym (g .least)) (best-within zs n h)
+-- ---- the choice over a settled row
 
-pub settled-tells : (l : List Record) (t n : ℕ) (zs : List Record) (best : Best) → length zs ≡ n → Settling l t n zs best → (r : Answer)
-    → r ≡ toldOf best (getD zs (best .at) noRecord .class) → r ≡ rowAnswer zs
-settled-tells l t n zs best len g r e = e ∙ ap (λ (b : Best). toldOf b (getD zs (b .at) noRecord .class)) (g .least ∙ ap (bestTo zs) (sym len))
+-- the chosen place is one of the row's, where there is one, and what is told of it is the row's answer
+pub chosen-within : (zs : List Record) (best : Best) → 0 < length zs → best ≡ bestTo zs (length zs) → best .at < length zs
+chosen-within zs best h e = subst (λ (b : Best). b .at < length zs) (sym e) (best-within zs (length zs) h)
+
+pub chosen-told : (zs : List Record) (best : Best) → best ≡ bestTo zs (length zs) → (r : Answer) → r ≡ toldOf best (getD zs (best .at) noRecord .class) → r ≡ rowAnswer zs
+chosen-told zs best e r d = d ∙ ap (λ (b : Best). toldOf b (getD zs (b .at) noRecord .class)) e
 
 -- ---- the event as a whole
 
@@ -89,8 +85,9 @@ module _ (l : List Record) (c : ℕ) (e : Event) where
   settled-row : (x : Record) → StateSound s → Accepts s e k (acted s e) (record { refusal = 0; after = x }) → Settles x
   unfolding applied
   settled-row x p a =
-      let rows : settledRow l e x ≡ set (settledTo l (e .time) (length l)) k x = stored-first l (e .time) (length l) k x (le-refl (length l)) (a .below) (a .prompt) in
-      let long : length (settledRow l e x) ≡ length l = length-filled (λ i. expired (getD (storedRow l e x) i noRecord) (e .time)) (storedRow l e x) noRecord (length l) ∙ length-set l k x in
+      let rows : settledRow l e x ≡ set (settledTo l (e .time) (length l)) k x =
+      ap (settledTo (storedRow l e x) (e .time)) (length-set l k x) ∙ stored-first l (e .time) (length l) k x (le-refl (length l)) (a .below) (a .prompt) in
+      let long : length (settledRow l e x) ≡ length l = row-expired (storedRow l e x) (e .time) .long ∙ length-set l k x in
       let all : min (length l) 16 ≡ length (settledRow l e x) = omega (arith, p .counted .most, long) in
       let told : answerOf (moved s (e .time) (settledRow l e x)) ≡ rowAnswer (settledRow l e x) =
       ap (λ (m : ℕ). toldOf (bestTo (settledRow l e x) m) (getD (settledRow l e x) (bestTo (settledRow l e x) m .at) noRecord .class)) all in

@@ -3,10 +3,9 @@ use Prim.Native.Nat.{ℕ}
 use mathlib.Core.Bool.{cond}
 use mathlib.Core.List.{List}
 use lib.ListN.{length, getD, set}
-use Rattle.laws.specs.Stores.{filled}
 use Rattle.events.specs.declared.Event.{Event}
 use Rattle.records.specs.declared.Record.{Record}
-use Rattle.jobs.specs.Opening.{expired, noRecord}
+use Rattle.jobs.specs.Opening.{noRecord}
 use Rattle.states.specs.Sound.{stateHolds}
 use Rattle.choices.specs.Choice.{bestTo}
 use Rattle.effects.specs.declared.Answer.{Answer}
@@ -17,6 +16,7 @@ use Rattle.effects.specs.Apply.{toldOf}
 use Rattle.rulings.specs.Ruling.{seatOf, kept, ruled}
 use Rattle.turns.specs.declared.Turn.{Turn}
 use Rattle.lent_rows.specs.Row.{stateOf}
+use Rattle.lent_rows.specs.Expiry.{expiredRow}
 
 abbrev pub unsound : Ruling
 unsound = kept 15 noRecord
@@ -33,7 +33,7 @@ abbrev pub storedRow : List Record → Event → Record → List Record
 storedRow l e x = set l (seatIn l e) x
 
 abbrev pub settledRow : List Record → Event → Record → List Record
-settledRow l e x = filled (λ i. expired (getD (storedRow l e x) i noRecord) (e .time)) (length l) (storedRow l e x)
+settledRow l e x = expiredRow (storedRow l e x) (e .time)
 
 abbrev pub rowAnswer : List Record → Answer
 rowAnswer l = toldOf (bestTo l (length l)) (getD l (bestTo l (length l) .at) noRecord .class)

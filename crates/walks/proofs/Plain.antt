@@ -38,6 +38,11 @@ module _ {M : Type 1} {𝓤 : URA M} {H : Heap 𝓤} {A : Atoms 𝓤} {K : Type 
       use1 W (later (some (λ (r : R .Denot). ‵ (R .own r (v ∷ [])) ⊛ raw (fact 𝓤 (φ r))))) (gives v) $ await t tt $ pick t (λ r. split t $ move t (1 ∷ []) $
       heard t (φ r) (λ e. peeks t R (Is R) (shows 𝓤 H A R) r (v ∷ []) (λ is. drop t $ k v r e is))))
 
+  -- the same with the operands first, where one of them is read off the code and says what is bound
+  pub calls-read : {rest : Body} → K → FmC 𝓤 H (W .laws) C → (c : Contract 𝓤) → Triple 𝓤 (C f) c → (x : c .Ghost) → Opds K W (raw (c .pre x) ∷ Γ) E xs (c .args x) → ent 𝓤 (emp 𝓤) (c .pre x) → (R : RattleType) (φ : R .Denot → Type 0)
+      → Gives 𝓤 H A c x R φ → ((v : Val) (r : R .Denot) → φ r → Is R r (v ∷ []) → Seq K W Γ (lands C Λ E d v rest q)) → Seq K W Γ (runs C Λ E (seq (call f xs d) rest) q)
+  calls-read t fm c met x os goes R φ gives k = calls-plain t fm c met x goes R φ gives os k
+
   -- the same where the call ends a block
   pub calls-plain-last : K → FmC 𝓤 H (W .laws) C → (c : Contract 𝓤) → Triple 𝓤 (C f) c → (x : c .Ghost) → ent 𝓤 (emp 𝓤) (c .pre x) → (R : RattleType) (φ : R .Denot → Type 0) → Gives 𝓤 H A c x R φ
       → Opds K W (raw (c .pre x) ∷ Γ) E xs (c .args x) → ((v : Val) (r : R .Denot) → φ r → Is R r (v ∷ []) → Seq K W Γ (settles E d v q)) → Seq K W Γ (runs C Λ E (call f xs d) q)
@@ -45,3 +50,7 @@ module _ {M : Type 1} {𝓤 : URA M} {H : Heap 𝓤} {A : Atoms 𝓤} {K : Type 
       use0 W (raw (c .pre x)) goes $ calls-at-last t fm c met x os (λ v.
       use1 W (later (some (λ (r : R .Denot). ‵ (R .own r (v ∷ [])) ⊛ raw (fact 𝓤 (φ r))))) (gives v) $ await t tt $ pick t (λ r. split t $ move t (1 ∷ []) $
       heard t (φ r) (λ e. peeks t R (Is R) (shows 𝓤 H A R) r (v ∷ []) (λ is. drop t $ k v r e is))))
+
+  pub calls-read-last : K → FmC 𝓤 H (W .laws) C → (c : Contract 𝓤) → Triple 𝓤 (C f) c → (x : c .Ghost) → Opds K W (raw (c .pre x) ∷ Γ) E xs (c .args x) → ent 𝓤 (emp 𝓤) (c .pre x) → (R : RattleType) (φ : R .Denot → Type 0)
+      → Gives 𝓤 H A c x R φ → ((v : Val) (r : R .Denot) → φ r → Is R r (v ∷ []) → Seq K W Γ (settles E d v q)) → Seq K W Γ (runs C Λ E (call f xs d) q)
+  calls-read-last t fm c met x os goes R φ gives k = calls-plain-last t fm c met x goes R φ gives os k

@@ -1,6 +1,7 @@
 -- `rule_in` meets its contract: a walk of its MIR, by hand. The row is passed on to `is_sound_in` at its own lifetime; where it is sound it has a record at the event's seat, which is copied and ruled on.
 use mathlib.Core.Path.{_≡_, refl, sym, ap, _∙_}
 use Prim.Native.Nat.{ℕ, _+_, _*_, _-_, _<_, _^_}
+use native.Mathlib.Omega.{arith}
 use mathlib.Core.Bool.{Bool}
 use mathlib.Core.List.{List, [], _∷_}
 use lib.Dec.{T}
@@ -56,7 +57,8 @@ use Rattle.rulings.proofs.Ruling as Q
 use Rattle.rulings.proofs.Ruling.Laws as Q′
 use Rattle.walks.proofs.Values.{record-val, record-vals}
 use Rattle.in_place.proofs.Called.{event-val, event-vals, SeatOf, Rule, UnsoundRuling, to-seat-of, to-rule, to-unsound-ruling, goes-seat-of, goes-rule, goes-unsound-ruling, seat-of-gives, rule-gives, unsound-ruling-gives}
-use Rattle.walks.proofs.Plain.{calls-plain, calls-plain-last}
+use Rattle.walks.proofs.Operands.{reads-number}
+use Rattle.walks.proofs.Plain.{calls-plain, calls-plain-last, calls-read-last}
 use Rattle.rulings.proofs.Prompt.{seat-below}
 use Rattle.turns.proofs.Turns.{sound-here, ruled-sound, ruled-unsound}
 use Rattle.walks.proofs.While.{scaled}
@@ -194,9 +196,9 @@ module _ {M : Type 1} (𝓤 : URA M) (H : Heap 𝓤) (A : Atoms 𝓤) (W : Given
           elem-out ! R.the-row (Is R.the-row) (shows 𝓤 H A R.the-row) record-vals (LL.tells R.the-type R′.the-laws) q′ ys k noRecord b o (within yes′) (λ g.
           assigns ! (of-opd ! (load ! (from ! (hop ! (look ! (6 + L 9) refl) (stop !))) (look-raw ! 0 {τ = R′.mir} refl))) (from ! (stop !)) (init ! (6 + L 10) refl (LL.lawful R.the-type R′.the-laws 𝓤 H A W .typed of _ g .0)) $
           elem-back ! R.the-row q′ ys k noRecord (record-vals of) b o (within yes′) $
-          calls-plain-last ! fm (Rule 𝓤 H A at-mem run) (known .rule) (to-rule 𝓤 H A at-mem run c n of (record-val of) e (event-val e)) (goes-rule 𝓤 H A at-mem run W c n of (record-val of) e (event-val e) c-fits (room .0) g e-is)
-          Q.the-row (λ r′. r′ ≡ ruled c n of e) (rule-gives 𝓤 H A at-mem run W c n of (record-val of) e (event-val e))
-          (and-then ! (load ! (from ! (stop !)) (look ! (5 + L 2) refl)) (and-then ! (load ! (from ! (stop !)) (look ! (5 + L 7) refl)) (and-then ! (load ! (from ! (stop !)) (look ! (5 + L 10) refl)) (and-then ! (load ! (from ! (stop !)) (look ! (5 + L 3) refl)) (no-more !))))) (λ v′ r′ rules is′.
+          calls-read-last ! fm (Rule 𝓤 H A at-mem run) (known .rule) (to-rule 𝓤 H A at-mem run _ n of (record-val of) e (event-val e))
+          (and-then ! (reads-number ! (λ j. 5 + L j) (0 ∷ 0 ∷ c ∷ []) tt refl) (and-then ! (load ! (from ! (stop !)) (look ! (5 + L 7) refl)) (and-then ! (load ! (from ! (stop !)) (look ! (5 + L 10) refl)) (and-then ! (load ! (from ! (stop !)) (look ! (5 + L 3) refl)) (no-more !)))))
+          (goes-rule 𝓤 H A at-mem run W _ n of (record-val of) e (event-val e) (omega (arith, c-fits)) (room .0) g e-is) Q.the-row (λ r′. r′ ≡ ruled _ n of e) (rule-gives 𝓤 H A at-mem run W _ n of (record-val of) e (event-val e)) (λ v′ r′ rules is′.
           land-last ! (from ! (stop !)) (init ! (4 + L 6) refl (LL.lawful Q.the-type Q′.the-laws 𝓤 H A W .typed r′ _ is′ .0)) $ exec ! C Λ En body.t-3 (atRet En Post) $
           shuts-slice ! tt R.the-row q′ ys b o $
           -- [the token; the borrow; what the slice owns; each local, 3 + L k]

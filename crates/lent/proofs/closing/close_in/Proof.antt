@@ -40,6 +40,7 @@ use Rattle.records.specs.Closing.{closed}
 use Rattle.records.specs.declared.Record.{Record}
 use Rattle.walks.proofs.Values.{record-val, record-vals}
 use Rattle.lent.proofs.Called.{Close, to-close, goes-close, close-gives}
+use Rattle.walks.proofs.Operands.{reads-bool}
 use Rattle.walks.proofs.Plain.{calls-plain}
 use Rattle.records.proofs.Record as R
 use Rattle.records.proofs.Record.Laws as R′
@@ -89,8 +90,8 @@ module _ {M : Type 1} (𝓤 : URA M) (H : Heap 𝓤) (A : Atoms 𝓤) (W : Given
         move ! (1 ∷ []) $ peeks ! R.the-row (Is R.the-row) (shows 𝓤 H A R.the-row) h (record-vals h) (λ was. drop ! $
         -- [the record's cell; the open borrow; obs; auth; each local from the last, 4 + L k; …]
         assigns ! (of-opd ! (load ! (from ! (hop ! (look ! (4 + L 1) refl) (stop !))) (look-raw ! 0 {τ = R′.mir} refl))) (from ! (stop !)) (init ! (4 + L 4) refl (LL.lawful R.the-type R′.the-laws 𝓤 H A W .typed h _ was .0)) $
-        calls-plain ! fm (Close 𝓤 H A at-mem run) known (to-close 𝓤 H A at-mem run h (record-val h) m (vbool m)) (goes-close 𝓤 H A at-mem run W h (record-val h) m (vbool m) was refl) R.the-row (λ r. r ≡ closed h m) (close-gives 𝓤 H A at-mem run W h (record-val h) m (vbool m))
-        (and-then ! (load ! (from ! (stop !)) (look ! (5 + L 4) refl)) (and-then ! (load ! (from ! (stop !)) (look ! (5 + L 2) refl)) (no-more !))) (λ v r e is.
+        calls-plain ! fm (Close 𝓤 H A at-mem run) known (to-close 𝓤 H A at-mem run h (record-val h) _) (goes-close 𝓤 H A at-mem run W h (record-val h) _ was) R.the-row (λ r. r ≡ closed h _) (close-gives 𝓤 H A at-mem run W h (record-val h) _)
+        (and-then ! (load ! (from ! (stop !)) (look ! (5 + L 4) refl)) (and-then ! (reads-bool ! (λ k. 5 + L k) (m ∷ m ∷ m ∷ []) tt refl) (no-more !))) (λ v r e is.
         land ! (from ! (stop !)) (init ! (4 + L 3) refl (LL.lawful R.the-type R′.the-laws 𝓤 H A W .typed r _ is .0)) $
         assigns ! (of-opd ! (load ! (from ! (stop !)) (look ! (4 + L 3) refl))) (from ! (hop ! (look ! (4 + L 1) refl) (stop !))) (store-raw ! 0 {τ = R′.mir} refl (LL.lawful R.the-type R′.the-laws 𝓤 H A W .typed r _ is .0)) $
         assigns ! (of-opd ! (unit-lit !)) (from ! (stop !)) (init ! (4 + L 0) refl (tt, tt)) $

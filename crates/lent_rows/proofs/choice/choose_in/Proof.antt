@@ -4,6 +4,7 @@ use mathlib.Core.Path.{_≡_, refl, sym, ap, _∙_}
 use Prim.Native.Nat.{ℕ, _+_, _*_, _-_, _≤_, _<_, _^_, zero-le}
 use native.Mathlib.Nat.{le-antisymm, lt-of-le-of-lt}
 use native.Mathlib.Numerals.{add-one, add-one-le, add-one-dec}
+use native.Mathlib.Omega.{arith}
 use mathlib.Core.WellFounded.{WellFounded, InvImage·wf}
 use mathlib.Core.List.{List, [], _∷_}
 use lib.Dec.{T, ltb, ltb→lt, nltb→le, lit<}
@@ -47,7 +48,8 @@ use Rattle.records.specs.declared.Record.{Record}
 use Rattle.choices.specs.declared.Best.{Best}
 use Rattle.walks.proofs.Values.{record-val, record-vals}
 use Rattle.lent_rows.proofs.Called.{NoBest, BetterOf, to-no-best, to-better-of, goes-no-best, goes-better-of, no-best-gives, better-of-gives}
-use Rattle.walks.proofs.Plain.{calls-plain}
+use Rattle.walks.proofs.Operands.{reads-number}
+use Rattle.walks.proofs.Plain.{calls-plain, calls-read}
 use Rattle.walks.proofs.While.{tests, scaled}
 use Rattle.records.proofs.Record as R
 use Rattle.records.proofs.Record.Laws as R′
@@ -168,9 +170,9 @@ module _ {M : Type 1} (𝓤 : URA M) (H : Heap 𝓤) (A : Atoms 𝓤) (W : Given
           -- [row[i]; what it owns; the others; the locals, 2 + L k; …]
           assigns ! (of-opd ! (load ! (from ! (hop ! (look ! (2 + L 6) refl) (stop !))) (look-raw ! 0 {τ = R′.mir} refl))) (from ! (stop !)) (init ! (2 + L 7) refl (LL.lawful R.the-type R′.the-laws 𝓤 H A W .typed of _ g .0)) $
           elem-back ! R.the-row q′ ys (t .i) noRecord (record-vals of) b o (ltb→lt (t .i) n less) $
-          calls-plain ! fm (BetterOf 𝓤 H A at-mem run) known-better-of (to-better-of 𝓤 H A at-mem run (t .best) (t .v) of (record-val of) (t .i)) (goes-better-of 𝓤 H A at-mem run W (t .best) (t .v) of (record-val of) (t .i) (t .is) g fits)
-          B.the-row (λ r. r ≡ better (t .best) of (t .i)) (better-of-gives 𝓤 H A at-mem run W (t .best) (t .v) of (record-val of) (t .i))
-          (and-then ! (load ! (from ! (stop !)) (look ! (1 + L 2) refl)) (and-then ! (load ! (from ! (stop !)) (look ! (1 + L 7) refl)) (and-then ! (load ! (from ! (stop !)) (look ! (1 + L 3) refl)) (no-more !)))) (λ v′ r e is.
+          calls-read ! fm (BetterOf 𝓤 H A at-mem run) known-better-of (to-better-of 𝓤 H A at-mem run (t .best) (t .v) of (record-val of) _)
+          (and-then ! (load ! (from ! (stop !)) (look ! (1 + L 2) refl)) (and-then ! (load ! (from ! (stop !)) (look ! (1 + L 7) refl)) (and-then ! (reads-number ! (λ k. 1 + L k) (0 ∷ 0 ∷ 0 ∷ t .i ∷ n ∷ []) tt refl) (no-more !))))
+          (goes-better-of 𝓤 H A at-mem run W (t .best) (t .v) of (record-val of) _ (t .is) g (omega (arith, fits))) B.the-row (λ r. r ≡ better (t .best) of _) (better-of-gives 𝓤 H A at-mem run W (t .best) (t .v) of (record-val of) _) (λ v′ r e is.
           land ! (from ! (stop !)) (store ! (L 2) refl (LL.lawful B.the-type B′.the-laws 𝓤 H A W .typed r _ is .0)) $
           assigns-last ! (bin ! (load ! (from ! (stop !)) (look ! (L 3) refl)) (lit ! tt) (record { fits = next-fits less })) (from ! (stop !)) (store ! (L 3) refl (tt, record { fits = next-fits less })) $
           forget ! (L 7) refl $ forget ! (L 6) refl $ forget ! (L 5) refl $ forget ! (L 4) refl $
