@@ -32,19 +32,19 @@ use Rattle.effects.specs.Apply.{answerOf, moved, ticked, releasedAt, completedA
 use Rattle.effects.specs.Log.{standing, ranOver, ran}
 use Rattle.effects.proofs.Frame.{count-stays}
 use Rattle.effects.proofs.Kept.{applied-sound}
-use Rattle.codes.specs.Code.{codeFor, ofAnswer, Said}
+use Rattle.codes.specs.Code.{codeFor, ofAnswer, InRun}
 
-answer-said : (s : State) → Said (s .count) (answerOf s)
+answer-said : (s : State) → InRun (s .count) (answerOf s)
 answer-said s =
-    by-test (Said (s .count)) (chosen s .found) _ _ (λ f. let b = found-below (s .records) (min (s .count) 16) f in omega (arith, b)) (λ f. tt)
+    by-test (InRun (s .count)) (chosen s .found) _ _ (λ f. let b = found-below (s .records) (min (s .count) 16) f in omega (arith, b)) (λ f. tt)
 
 -- ---- one event
 
 module _ (s : State) (e : Event) where
   Fine : Applied → Type 0
-  Fine a = Said (s .count) (a .answer)
+  Fine a = InRun (s .count) (a .answer)
 
-  kind-said : Said (s .count) (byKind s e .answer)
+  kind-said : InRun (s .count) (byKind s e .answer)
   unfolding byKind ticked releasedAt completedAt Fine
   kind-said =
       let one = expired (recordAt s (e .task)) (e .time) in
@@ -62,7 +62,7 @@ module _ (s : State) (e : Event) where
       (λ b.
       by-test Fine (isOpen one (e .job)) _ _ (λ f. answer-said (moved s (e .time) (set l (e .task) (closed one true)))) (λ f. omega arith))))
 
-  applied-said : StateSound s → faultOf e ≡ 0 → Said (s .count) (applied s e .answer)
+  applied-said : StateSound s → faultOf e ≡ 0 → InRun (s .count) (applied s e .answer)
   unfolding applied acted timed Fine
   applied-said p z =
       rw (tells-true (state-tells s) p, eq-eqb (faultOf e) 0 z)
@@ -81,20 +81,20 @@ all-ruled =
     by-records (λ s. AllRuled (eventsOf s)) (λ s t. rw (t .none) tt)
     (λ s g h. rw (g .counts) (judge-0 _ .1 (g .ruled), h))
 
-over-said : (n : ℕ) (a : Applied) (es : List Event) → AllRuled es → StateSound (a .state) → a .state .count ≡ n → Said n (a .answer)
-    → Said n (ranOver a es .answer)
+over-said : (n : ℕ) (a : Applied) (es : List Event) → AllRuled es → StateSound (a .state) → a .state .count ≡ n → InRun n (a .answer)
+    → InRun n (ranOver a es .answer)
 unfolding ranOver AllRuled
 over-said n a [] r s q p = p
 over-said n a (e ∷ es) r s q p =
     over-said n (applied (a .state) e) es (r .1) (applied-sound (a .state) s e) (count-stays (a .state) e ∙ q)
-    (subst (λ k. Said k (applied (a .state) e .answer)) q (applied-said (a .state) e s (r .0)))
+    (subst (λ k. InRun k (applied (a .state) e .answer)) q (applied-said (a .state) e s (r .0)))
 
-pub ran-said : (s : State) (log : List ℕ) → StateSound s → Said (s .count) (ran s log .answer)
+pub ran-said : (s : State) (log : List ℕ) → StateSound s → InRun (s .count) (ran s log .answer)
 unfolding ran
 ran-said s log p = rw (tells-true (state-tells s) p) (over-said (s .count) (standing s) (eventsOf log) (all-ruled log) p refl (answer-said s))
 
 -- one of n tasks is one of 16
-pub said-16 : (n : ℕ) (a : Answer) → n ≤ 16 → Said n a → Said 16 a
+pub said-16 : (n : ℕ) (a : Answer) → n ≤ 16 → InRun n a → InRun 16 a
 said-16 n (A.Run p c) l h = omega arith
 said-16 n A.Idle l h = tt
 said-16 n (A.Refused k) l h = h
@@ -104,7 +104,7 @@ pub ran-fits : (s : State) (log : List ℕ) → codeFor (ofAnswer (ran s log .an
 unfolding ran
 ran-fits s log = by-test (λ (r : Ran). codeFor (ofAnswer (r .answer)) < 2 ^ 32) (stateHolds s) _ _ sound (λ e. lit< tt)
   where
-    small : (a : Answer) → Said 16 a → codeFor (ofAnswer a) < 2 ^ 32
+    small : (a : Answer) → InRun 16 a → codeFor (ofAnswer a) < 2 ^ 32
     small (A.Run p c) h = omega arith
     small A.Idle h = lit< tt
     small (A.Refused k) h = omega arith

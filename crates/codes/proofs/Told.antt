@@ -20,7 +20,7 @@ use Rattle.effects.specs.declared.Answer.{Answer}
 use Rattle.effects.specs.declared.Answer.the-variants as A
 use Rattle.effects.specs.Apply.{applied}
 use Rattle.effects.specs.Log.{stateAfter}
-use Rattle.codes.specs.Code.{Case, chosen, none, refused, too-long, Fits, codeFor, caseFor, Said, ofAnswer, begins, caseOf, codeOf}
+use Rattle.codes.specs.Code.{Case, chosen, none, refused, too-long, Fits, codeFor, caseFor, InRun, ofAnswer, begins, caseOf, codeOf}
 use Rattle.codes.specs.Given.{Begun, Given, long, bad-table, bad-record, empty, last, Source, of-table, of-record, of-event}
 use Rattle.codes.proofs.Answers.{ran-said, said-16}
 use Rattle.codes.proofs.Starts.{answer-is, begins-sound}
@@ -50,7 +50,7 @@ module _ (table log : List ℕ) where
   table-among n p q = read-among table n p (sym (answer-is table) ∙ q)
 
   last-said : Begun table log → (es : List Event) (e : Event) → eventsOf log ≡ es ++ (e ∷ [])
-      → Said (readTable table .table .count) (applied (stateAfter (begins table) es) e .answer)
+      → InRun (readTable table .table .count) (applied (stateAfter (begins table) es) e .answer)
   last-said b es e q = rw (ran-last table log b es e q) at (ran-said (begins table) log (begins-sound table (b .tabled)))
 
   most : Begun table log → readTable table .table .count ≤ 16
@@ -67,7 +67,7 @@ module _ (table log : List ℕ) where
       go (applied (stateAfter (begins table) es) e .answer)
       (said-16 (readTable table .table .count) (applied (stateAfter (begins table) es) e .answer) (most (w .begun)) (last-said (w .begun) es e q))
     where
-      go : (a : Answer) → Said 16 a → Fits (ofAnswer a)
+      go : (a : Answer) → InRun 16 a → Fits (ofAnswer a)
       go (A.Run p k) h = h
       go A.Idle h = tt
       go (A.Refused n) h = (omega (arith, h .0), h .1)
@@ -106,7 +106,7 @@ module _ (table log : List ℕ) where
   from c (empty b q) n e = let z : _≡_ {A = ℕ} 0 1 = cc in absurd (omega arith)
   from c (last w es x q) n e = go (applied (stateAfter (begins table) es) x .answer) refl (last-said (w .begun) es x q) e
     where
-      go : (a : Answer) → applied (stateAfter (begins table) es) x .answer ≡ a → Said (readTable table .table .count) a → ofAnswer a ≡ refused n
+      go : (a : Answer) → applied (stateAfter (begins table) es) x .answer ≡ a → InRun (readTable table .table .count) a → ofAnswer a ≡ refused n
           → Source table log n
       go (A.Run p k) r h z = let y : _≡_ {A = ℕ} 0 1 = cc in absurd (omega arith)
       go A.Idle r h z = let y : _≡_ {A = ℕ} 0 1 = cc in absurd (omega arith)
@@ -126,7 +126,7 @@ module _ (table log : List ℕ) where
   chosen-by c (empty b q) p e = let z : _≡_ {A = ℕ} 0 1 = cc in absurd (omega arith)
   chosen-by c (last w es x q) p e = go (applied (stateAfter (begins table) es) x .answer) (last-said (w .begun) es x q) e
     where
-      go : (a : Answer) → Said (readTable table .table .count) a → ofAnswer a ≡ chosen p → p < readTable table .table .count
+      go : (a : Answer) → InRun (readTable table .table .count) a → ofAnswer a ≡ chosen p → p < readTable table .table .count
       go (A.Run k c) h z = let y : k ≡ p = cc in omega arith
       go A.Idle h z = let y : _≡_ {A = ℕ} 0 1 = cc in absurd (omega arith)
       go (A.Refused m) h z = let y : _≡_ {A = ℕ} 0 1 = cc in absurd (omega arith)

@@ -47,10 +47,10 @@ ofAnswer A.Idle = none
 ofAnswer (A.Refused n) = refused n
 
 -- what an event that reads is answered in a run of n tasks: one of them, none, or 9 to 12
-abbrev pub Said : ℕ → Answer → Type 0
-Said n (A.Run p c) = p < n
-Said n A.Idle = Unit
-Said n (A.Refused k) = (9 ≤ k) × (k ≤ 12)
+abbrev pub InRun : ℕ → Answer → Type 0
+InRun n (A.Run p c) = p < n
+InRun n A.Idle = Unit
+InRun n (A.Refused k) = (9 ≤ k) × (k ≤ 12)
 
 -- a reading refusal goes before it
 abbrev pub afterReading : Ending → Case → Case

@@ -6,6 +6,7 @@ use mathlib.Core.List.{[], _∷_}
 use mathlib.Core.Logic.{_↔_}
 use native.Mathlib.Omega.{arith}
 use lib.ListN.{getD}
+use Rattle.laws.specs.Said.{Said}
 use Rattle.laws.proofs.Answers.{exactly}
 use Rattle.laws.proofs.Tests.{true-not-false}
 use Rattle.tables.proofs.Ruling.{fault-none}
@@ -18,7 +19,7 @@ use Rattle.choices.proofs.Least.{best-is, least-exactly, least-one}
 use Rattle.states.specs.declared.State.{State}
 use Rattle.states.specs.State.{recordAt}
 use Rattle.states.specs.Sound.{StateSound}
-use Rattle.effects.specs.Answers.{Said, answerSaid, refusalOf}
+use Rattle.effects.specs.Answers.{answerSaid, refusalOf}
 use Rattle.effects.specs.Apply.{toldOf, answerOf, applied}
 use Rattle.effects.specs.Choice.{Chooses, runs, idles}
 use Rattle.effects.proofs.Kept.{applied-sound}
@@ -37,7 +38,7 @@ module _ (q : State) (sound : StateSound q) where
   said-is b (some {p} f) = runs p (least-exactly (q .records) (q .count) small p .0 f)
   said-is b (nothing f) = idles f
 
-  said-only : (b : Best) → Found (q .records) (q .count) b → (a : Said) → Chooses q a → a ≡ answerSaid (toldOf b (recordAt q (b .at) .class))
+  said-only : (b : Best) → Found (q .records) (q .count) b → (a : Said ℕ) → Chooses q a → a ≡ answerSaid (toldOf b (recordAt q (b .at) .class))
   said-only b (some {p} f) a (runs o g) =
       ap (λ (x : ℕ). record { number = 0; values = x ∷ recordAt q x .class ∷ [] })
       (least-one (q .records) (q .count) small o p g (least-exactly (q .records) (q .count) small p .0 f))
@@ -50,13 +51,13 @@ module _ (q : State) (sound : StateSound q) where
       let m : min (q .count) 16 ≡ q .count = omega (arith, sound .counted .most) in
       subst (λ (n : ℕ). Found (q .records) (q .count) (bestTo (q .records) n)) (sym m) (best-is (q .records) (q .count))
 
-  pub answer-exactly : (a : Said) → (answerSaid (answerOf q) ≡ a) ↔ Chooses q a
+  pub answer-exactly : (a : Said ℕ) → (answerSaid (answerOf q) ≡ a) ↔ Chooses q a
   answer-exactly =
       exactly (Chooses q) (said-is (bestTo (q .records) (min (q .count) 16)) found) (said-only (bestTo (q .records) (min (q .count) 16)) found)
 
 -- ---- the answer of an accepted event
 
 module _ (s : State) (e : Event) where
-  pub choice-exactly : refusalOf (applied s e .answer) ≡ 0 → (a : Said) → (answerSaid (applied s e .answer) ≡ a) ↔ Chooses (applied s e .state) a
+  pub choice-exactly : refusalOf (applied s e .answer) ≡ 0 → (a : Said ℕ) → (answerSaid (applied s e .answer) ≡ a) ↔ Chooses (applied s e .state) a
   choice-exactly o a =
       rw (answers-so s e o) (answer-exactly (applied s e .state) (applied-sound s (heard-by s e (accepts-by s e o) .sound) e) a)

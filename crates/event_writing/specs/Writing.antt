@@ -9,7 +9,7 @@ use Rattle.events.specs.declared.Event.{Event}
 use Rattle.event_writing.specs.declared.Writing.{Writing}
 use Rattle.event_writing.specs.declared.Writing.the-variants as W
 use Rattle.events.specs.Event.{Zeroed, Ruled, faultOf}
-use Rattle.events.specs.Answer.{Said}
+use Rattle.laws.specs.Said.{Said}
 
 -- the mark, the kind and the task
 abbrev pub headOf : ℕ → ℕ → List ℕ
@@ -38,9 +38,9 @@ unfoldable pub afterWrite : Event → List ℕ → List ℕ
 afterWrite e s = cond (eqb (writeFault e s) 0) (recordOf e ++ drop 20 s) s
 
 -- document 01's number for each case
-abbrev pub writtenSaid : Writing → Said
-writtenSaid W.Whole = record { number = 0; events = [] }
-writtenSaid (W.Refused n) = record { number = n; events = [] }
+abbrev pub writtenSaid : Writing → Said Event
+writtenSaid W.Whole = record { number = 0; values = [] }
+writtenSaid (W.Refused n) = record { number = n; values = [] }
 
 -- job and time are what 8 bytes can hold, as those of every event value are
 pub record Sized (e : Event) : Type 0 where

@@ -83,7 +83,7 @@ number-refused (R.Event e) n q = absurd (omega arith)
 number-refused R.End n q = absurd (omega arith)
 number-refused (R.Refused m) n q = ap R.Refused q
 
-handed-event : (r : Reading) (e : Event) → readSaid r .events ≡ e ∷ [] → r ≡ R.Event e
+handed-event : (r : Reading) (e : Event) → readSaid r .values ≡ e ∷ [] → r ≡ R.Event e
 handed-event (R.Event x) e q = ap R.Event (cc)
 handed-event R.End e q = let z : _≡_ {A = ℕ} 0 1 = cc in absurd (omega arith)
 handed-event (R.Refused m) e q = let z : _≡_ {A = ℕ} 0 1 = cc in absurd (omega arith)
@@ -138,7 +138,7 @@ read-8 s = (λ q. stray-of (number-is s 7 .0 q), λ p. number-is s 7 .1 (stray (
 
 -- an event exactly when the mark is right and the event obeys the rules; it is the one that the bytes spell
 pub read-event : (s : List ℕ) (e : Event)
-    → readSaid (readRecord s) .events ≡ e ∷ [] ↔ (20 ≤ length s) × (Marked s × (Ruled (eventOf s) × (e ≡ eventOf s)))
+    → readSaid (readRecord s) .values ≡ e ∷ [] ↔ (20 ≤ length s) × (Marked s × (Ruled (eventOf s) × (e ≡ eventOf s)))
 read-event s e = (
   λ q. event-of s e (handed-event (readRecord s) e q),
   λ p. rw (← reads-only (whole (p .0) (p .1 .0) (p .1 .1 .0)), p .1 .1 .1),

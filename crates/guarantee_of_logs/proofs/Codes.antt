@@ -14,7 +14,10 @@ use Rattle.table_bytes.specs.Reading.{readTable}
 use Rattle.events.specs.declared.Event.{Event}
 use Rattle.logs.specs.Log.{readable, eventsOf}
 use Rattle.logs.proofs.Records.{readable-fits}
+use Rattle.logs.specs.declared.Ending.the-variants as E
+use Rattle.logs.specs.Ending.{endingOf}
 use Rattle.logs.proofs.Rests.{rest-end}
+use Rattle.logs.proofs.Endings.{ending-whole}
 use Rattle.states.specs.declared.State.{State}
 use Rattle.states.specs.State.{recordAt}
 use Rattle.states.specs.Sound.{StateSound}
@@ -25,26 +28,20 @@ use Rattle.effects.specs.declared.Answer.{Answer}
 use Rattle.effects.specs.declared.Answer.the-variants as A
 use Rattle.effects.specs.declared.Applied.{Applied}
 use Rattle.effects.specs.Apply.{answerOf, applied}
-use Rattle.effects.specs.Log.{standing, ranOver, stateAfter, ran}
+use Rattle.effects.specs.Log.{standing, ran}
+use Rattle.effects.proofs.Runs.{ran-by}
 use Rattle.histories.specs.History.{accepts}
 use Rattle.histories.proofs.Taken.{refused-leaves, answers-choice}
-use Rattle.codes.specs.Code.{codeFor, ofAnswer, codeOf}
+use Rattle.codes.specs.Code.{codeFor, ofAnswer, codeOf, begins}
 use Rattle.codes.specs.Given.{Begun, Whole, last}
 use Rattle.codes.proofs.Starts.{begins-sound, begins-idle}
 use Rattle.codes.proofs.Exactly.{given-exactly}
 use Rattle.codes.proofs.Told.{empty-log}
 use Rattle.guarantee_of_logs.specs.Places.{eventAt, afterFirst, acceptedAt}
-use Rattle.guarantee_of_logs.specs.Bytes.{ReadsWhole, BothRead, startOf}
+use Rattle.guarantee_of_logs.specs.Bytes.{BothRead}
 use Rattle.guarantee_of_logs.specs.Codes.{codeAfter, choiceCode, CodeTells, at-first, last-accepted, last-refused, CodesOfLogs}
 use Rattle.guarantee_of_logs.proofs.Places.{after-sound, after-more}
 use Rattle.guarantee_of_logs.proofs.Fronts.{events-length, front-events, front-whole}
-
--- ---- the two ways to say the state after some events
-
-after-over : (a : Applied) (es : List Event) → ranOver a es .state ≡ stateAfter (a .state) es
-unfolding ranOver stateAfter
-after-over a [] = refl
-after-over a (e ∷ es) = after-over (applied (a .state) e) es
 
 -- ---- an answer and its code
 
@@ -85,7 +82,7 @@ module _ (s : State) (es : List Event) (g : StateSound s) (n : ℕ) (h : n < len
 
 module _ (table log : List ℕ) (read : readTable table .answer ≡ Accepted) (size : length log ≤ 65536) where
   front-code : (n : ℕ) → n < readable log
-      → codeAfter table log (suc n) ≡ codeFor (ofAnswer (applied (afterFirst (startOf table) (eventsOf log) n) (eventAt (eventsOf log) n) .answer))
+      → codeAfter table log (suc n) ≡ codeFor (ofAnswer (applied (afterFirst (begins table) (eventsOf log) n) (eventAt (eventsOf log) n) .answer))
   unfolding codeOf
   front-code n h =
       let es = eventsOf log in
@@ -95,29 +92,28 @@ module _ (table log : List ℕ) (read : readTable table .answer ≡ Accepted) (s
       let w : Whole table x = record { begun = b; ended = front-whole (suc n) log h } in
       let q : eventsOf x ≡ take n es ++ (eventAt es n ∷ []) = front-events (suc n) log h ∙ take-suc es n _ (rw (events-length log) h) in
       ap codeFor (given-exactly table x _ .1 (last w (take n es) (eventAt es n) q))
-      ∙ ap (λ (s : State). codeFor (ofAnswer (applied s (eventAt es n) .answer))) (after-over (standing (startOf table)) (take n es))
 
 -- a log that reads whole has an event for each 20 bytes
-pub whole-count : (log : List ℕ) → ReadsWhole log → 20 * length (eventsOf log) ≡ length log
-whole-count log w = rw (events-length log) (rest-end log .0 w)
+pub whole-count : (log : List ℕ) → endingOf log ≡ E.Whole → 20 * length (eventsOf log) ≡ length log
+whole-count log w = rw (events-length log) (rest-end log .0 (ending-whole log .0 w))
 
 pub codes-of-logs : CodesOfLogs
 codes-of-logs table log read size zero h =
-    subst (CodeTells (startOf table) (eventsOf log) 0) (sym (empty-log table (read .tabled))) (at-first (begins-idle table (read .tabled)))
+    subst (CodeTells (begins table) (eventsOf log) 0) (sym (empty-log table (read .tabled))) (at-first (begins-idle table (read .tabled)))
 codes-of-logs table log read size (suc n) h =
     let k : n < length (eventsOf log) = omega (arith, whole-count log (read .whole)) in
-    subst (CodeTells (startOf table) (eventsOf log) (suc n)) (sym (front-code table log (read .tabled) size n (rw (events-length log) at k)))
-    (told (startOf table) (eventsOf log) (begins-sound table (read .tabled)) n k)
+    subst (CodeTells (begins table) (eventsOf log) (suc n)) (sym (front-code table log (read .tabled) size n (rw (events-length log) at k)))
+    (told (begins table) (eventsOf log) (begins-sound table (read .tabled)) n k)
 
 -- the state that `engine::log::run` leaves by the first n records is the one after n events
 pub ran-front : (table log : List ℕ) → BothRead table log → (n : ℕ) → 20 * n ≤ length log
-    → ran (startOf table) (take (20 * n) log) .state ≡ afterFirst (startOf table) (eventsOf log) n
+    → ran (begins table) (take (20 * n) log) .state ≡ afterFirst (begins table) (eventsOf log) n
 unfolding ran
 ran-front table log read n h =
-    let s = startOf table in
+    let s = begins table in
     let k : n ≤ length (eventsOf log) = omega (arith, whole-count log (read .whole)) in
     rw (tells-true (state-tells s) (begins-sound table (read .tabled)), front-events n log (rw (events-length log) at k))
-    (after-over (standing s) (take n (eventsOf log)))
+    (sym (ran-by (standing s) (take n (eventsOf log))))
 
 -- ---- what a caller reads off a code
 

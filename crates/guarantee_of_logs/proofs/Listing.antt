@@ -29,11 +29,11 @@ use Rattle.effects.specs.Log.{ranOver, ran}
 use Rattle.response.specs.Fits.{firstFit}
 use Rattle.demands.specs.Demand.{demand}
 use Rattle.all_bounds.specs.Asked.{allAnswer}
-use Rattle.codes.specs.Code.{logCase, caseOf, codeOf}
+use Rattle.codes.specs.Code.{logCase, caseOf, codeOf, begins}
 use Rattle.guarantee.proofs.Listing.{releases, finishes, ticks, listed, seven-obey, eighth-late}
 use Rattle.guarantee_of_logs.specs.Premise.{LogObeys}
 use Rattle.guarantee_of_logs.specs.Keeps.{LogKeeps}
-use Rattle.guarantee_of_logs.specs.Bytes.{BothRead, startOf}
+use Rattle.guarantee_of_logs.specs.Bytes.{BothRead}
 use Rattle.guarantee_of_logs.specs.Codes.{codeAfter}
 use Rattle.guarantee_of_logs.specs.CodeTime.{CodesObey}
 use Rattle.guarantee_of_logs.proofs.Premise.{premise-either-way}
@@ -89,11 +89,11 @@ seven-obey-in-order = premise-either-way (freshState listed) sevenEvents .1 seve
 pub eighth-late-in-order : LogObeys (freshState listed) (sevenEvents ++ (ticks 9 ∷ [])) → ⊥
 eighth-late-in-order o = eighth-late (premise-either-way (freshState listed) (sevenEvents ++ (ticks 9 ∷ [])) .0 o)
 
-pub bytes-obey : LogObeys (startOf tableBytes) (eventsOf logBytes)
+pub bytes-obey : LogObeys (begins tableBytes) (eventsOf logBytes)
 bytes-obey = rw (table-is, events-are) seven-obey-in-order
 
-pub bytes-kept : LogKeeps (readTable tableBytes .table) (startOf tableBytes) (eventsOf logBytes) 0
-    × LogKeeps (readTable tableBytes .table) (startOf tableBytes) (eventsOf logBytes) 1
+pub bytes-kept : LogKeeps (readTable tableBytes .table) (begins tableBytes) (eventsOf logBytes) 0
+    × LogKeeps (readTable tableBytes .table) (begins tableBytes) (eventsOf logBytes) 1
 bytes-kept =
     let ok : allAnswer (readTable tableBytes .table) 16 ≡ Accepted = rw table-is bounds-given in (
       guarantee-of-logs tableBytes logBytes 16 bytes-read ok bytes-obey 0 (rw table-is (lit< tt)),

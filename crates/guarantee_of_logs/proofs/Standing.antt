@@ -25,7 +25,8 @@ use Rattle.histories.proofs.Taken.{Took, refusal, tick, release, completion, to
 use Rattle.codes.proofs.Starts.{begins-sound, begins-idle}
 use Rattle.guarantee_of_logs.specs.Places.{eventAt, afterFirst}
 use Rattle.guarantee_of_logs.specs.ChosenTime.{standingAt, StandsLast}
-use Rattle.guarantee_of_logs.specs.Bytes.{BothRead, startOf}
+use Rattle.codes.specs.Code.{begins}
+use Rattle.guarantee_of_logs.specs.Bytes.{BothRead}
 use Rattle.guarantee_of_logs.specs.Codes.{choiceCode, CodeTells, last-accepted, last-refused}
 use Rattle.guarantee_of_logs.specs.CodeTime.{standingCode}
 use Rattle.guarantee_of_logs.proofs.Places.{after-sound, after-more}
@@ -110,10 +111,10 @@ module _ (s : State) (es : List Event) (y : ℕ) where
   one-more g d h (last-refused n k r z) q = rw (le-ltb (32 + k) 32 (omega arith), z, again n) q
 
 pub choice-stands : (table log : List ℕ) → BothRead table log → length log ≤ 65536 → (n y : ℕ) → 20 * n ≤ length log
-    → choiceCode (standingAt (startOf table) (eventsOf log) n y) ≡ standingCode table log n y
+    → choiceCode (standingAt (begins table) (eventsOf log) n y) ≡ standingCode table log n y
 unfolding standingCode standingAt
 choice-stands table log read size zero y h = rw (begins-idle table (read .tabled))
 choice-stands table log read size (suc n) y h =
-    one-more (startOf table) (eventsOf log) y (begins-sound table (read .tabled)) (standingCode table log n y)
+    one-more (begins table) (eventsOf log) y (begins-sound table (read .tabled)) (standingCode table log n y)
     (omega (arith, whole-count log (read .whole))) (codes-of-logs table log read size (suc n) h)
     (choice-stands table log read size n y (omega arith))

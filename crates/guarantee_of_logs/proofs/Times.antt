@@ -40,7 +40,8 @@ use Rattle.codes.proofs.Starts.{answer-is, begins-sound}
 use Rattle.guarantee_of_logs.specs.Places.{eventAt, afterFirst, recordAfter, acceptedAt}
 use Rattle.guarantee_of_logs.specs.ChosenTime.{standingAt, chosenAfter, openAfter}
 use Rattle.guarantee_of_logs.specs.Premise.{LogObeys}
-use Rattle.guarantee_of_logs.specs.Bytes.{BothRead, startOf}
+use Rattle.codes.specs.Code.{begins}
+use Rattle.guarantee_of_logs.specs.Bytes.{BothRead}
 use Rattle.guarantee_of_logs.specs.Codes.{choiceCode, codeAfter}
 use Rattle.guarantee_of_logs.specs.CodeTime.{standingCode, codeTime, CodesObey, AnswersOfLogs}
 use Rattle.guarantee_of_logs.specs.Guarantee.{GuaranteeByAnswers}
@@ -185,7 +186,7 @@ tick-is q i j r y c h k from before = go (decLe r y)
 
 module _ (table log : List ℕ) (read : BothRead table log) (size : length log ≤ 65536) where
   abbrev start : State
-  start = startOf table
+  start = begins table
 
   abbrev events : List Event
   events = eventsOf log

@@ -14,7 +14,8 @@ use Rattle.guarantee.specs.Premise.{Waits}
 use Rattle.guarantee_of_logs.specs.Places.{eventAt, recordAfter}
 use Rattle.guarantee_of_logs.specs.ChosenTime.{standingAt, openAfter}
 use Rattle.guarantee_of_logs.specs.Premise.{LogObeys}
-use Rattle.guarantee_of_logs.specs.Bytes.{BothRead, startOf}
+use Rattle.codes.specs.Code.{begins}
+use Rattle.guarantee_of_logs.specs.Bytes.{BothRead}
 use Rattle.guarantee_of_logs.specs.Codes.{codeAfter, choiceCode}
 
 -- the code that stands at tick y: the answer after the last accepted event, a code below 32, whose time is not after y, and 16 before any
@@ -26,7 +27,7 @@ standingCode table log (suc n) y =
 
 -- task i's record after n events
 abbrev pub recordOf : List ℕ → List ℕ → ℕ → ℕ → Record
-recordOf table log n i = recordAfter (startOf table) (eventsOf log) n i
+recordOf table log n i = recordAfter (begins table) (eventsOf log) n i
 
 -- the ticks from the release of task i's last job on, before x and before its deadline, at which task i's code stands
 unfoldable pub codeTime : List ℕ → List ℕ → ℕ → ℕ → ℕ → ℕ
@@ -38,16 +39,16 @@ codeTime table log n i x =
 abbrev pub CodesObey : List ℕ → List ℕ → Type 0
 CodesObey table log =
     (n : ℕ) → 20 * suc n ≤ length log → codeAfter table log (suc n) < 32
-    → (i x : ℕ) → i < startOf table .count → recordOf table log n i .live ≡ true → recordOf table log n i .task .c ≤ codeTime table log n i x
+    → (i x : ℕ) → i < begins table .count → recordOf table log n i .live ≡ true → recordOf table log n i .task .c ≤ codeTime table log n i x
     → Waits (eventAt (eventsOf log) n) x
 
 -- of the logs that the function looks at: the code that stands is the choice that stands, chosen time is the time by codes, and the premise is the
 -- one by the answers
 pub record Answered (table log : List ℕ) : Type 0 where
-  pub choices : (n y : ℕ) → 20 * n ≤ length log → choiceCode (standingAt (startOf table) (eventsOf log) n y) ≡ standingCode table log n y
-  pub times : (n i x : ℕ) → 20 * n ≤ length log → i < startOf table .count
-      → openAfter (startOf table) (eventsOf log) n i x ≡ codeTime table log n i x
-  pub premise : LogObeys (startOf table) (eventsOf log) ↔ CodesObey table log
+  pub choices : (n y : ℕ) → 20 * n ≤ length log → choiceCode (standingAt (begins table) (eventsOf log) n y) ≡ standingCode table log n y
+  pub times : (n i x : ℕ) → 20 * n ≤ length log → i < begins table .count
+      → openAfter (begins table) (eventsOf log) n i x ≡ codeTime table log n i x
+  pub premise : LogObeys (begins table) (eventsOf log) ↔ CodesObey table log
 
 abbrev pub AnswersOfLogs : Type 0
 AnswersOfLogs = (table log : List ℕ) → BothRead table log → length log ≤ 65536 → Answered table log

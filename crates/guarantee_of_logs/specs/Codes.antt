@@ -10,9 +10,9 @@ use Rattle.states.specs.declared.State.{State}
 use Rattle.states.specs.Choice.{chosen}
 use Rattle.effects.specs.declared.Answer.the-variants.{Refused}
 use Rattle.effects.specs.Apply.{applied}
-use Rattle.codes.specs.Code.{codeOf}
+use Rattle.codes.specs.Code.{codeOf, begins}
 use Rattle.guarantee_of_logs.specs.Places.{eventAt, afterFirst, acceptedAt}
-use Rattle.guarantee_of_logs.specs.Bytes.{BothRead, startOf}
+use Rattle.guarantee_of_logs.specs.Bytes.{BothRead}
 
 -- the function's answer for the first n records
 abbrev pub codeAfter : List ℕ → List ℕ → ℕ → ℕ
@@ -36,4 +36,4 @@ pub data CodeTells (s : State) (es : List Event) : ℕ → ℕ → Type 0 where
 abbrev pub CodesOfLogs : Type 0
 CodesOfLogs =
     (table log : List ℕ) → BothRead table log → length log ≤ 65536 → (n : ℕ) → 20 * n ≤ length log
-    → CodeTells (startOf table) (eventsOf log) n (codeAfter table log n)
+    → CodeTells (begins table) (eventsOf log) n (codeAfter table log n)

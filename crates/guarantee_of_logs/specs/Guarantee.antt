@@ -9,7 +9,8 @@ use Rattle.logs.specs.Log.{eventsOf}
 use Rattle.all_bounds.specs.Asked.{allAnswer}
 use Rattle.guarantee_of_logs.specs.Premise.{LogObeys}
 use Rattle.guarantee_of_logs.specs.Keeps.{LogKeeps}
-use Rattle.guarantee_of_logs.specs.Bytes.{BothRead, startOf}
+use Rattle.codes.specs.Code.{begins}
+use Rattle.guarantee_of_logs.specs.Bytes.{BothRead}
 use Rattle.guarantee_of_logs.specs.CodeTime.{CodesObey}
 
 -- for table bytes that read and whose analysis, with room for so many numbers, gives all bounds, and log bytes that read to their end and obey
@@ -17,12 +18,12 @@ use Rattle.guarantee_of_logs.specs.CodeTime.{CodesObey}
 abbrev pub GuaranteeOfLogs : Type 0
 GuaranteeOfLogs =
     (table log : List ℕ) (room : ℕ) → BothRead table log → allAnswer (readTable table .table) room ≡ Accepted
-    → LogObeys (startOf table) (eventsOf log)
-    → (i : ℕ) → i < readTable table .table .count → LogKeeps (readTable table .table) (startOf table) (eventsOf log) i
+    → LogObeys (begins table) (eventsOf log)
+    → (i : ℕ) → i < readTable table .table .count → LogKeeps (readTable table .table) (begins table) (eventsOf log) i
 
 -- the same where the premise is read off the function's answers, of a log that it looks at
 abbrev pub GuaranteeByAnswers : Type 0
 GuaranteeByAnswers =
     (table log : List ℕ) (room : ℕ) → BothRead table log → length log ≤ 65536 → allAnswer (readTable table .table) room ≡ Accepted
     → CodesObey table log
-    → (i : ℕ) → i < readTable table .table .count → LogKeeps (readTable table .table) (startOf table) (eventsOf log) i
+    → (i : ℕ) → i < readTable table .table .count → LogKeeps (readTable table .table) (begins table) (eventsOf log) i

@@ -58,7 +58,7 @@ use Rattle.turns.proofs.steps.refused_turn as refused-turn
 use Rattle.turns.proofs.steps.placed as placed
 use Rattle.lent_rows.proofs.expiry.expire_all_in as expire-all-in
 use Rattle.in_place.proofs.apply.apply_in as apply-in
-use Rattle.turns.proofs.Turns.{Said}
+use Rattle.turns.proofs.Turns.{TurnSays}
 use Rattle.walks.proofs.Plain.{Gives, taken}
 use Rattle.walks.proofs.Loans.{under, Loan, lent-row, GivesBack, returned, told}
 
@@ -232,7 +232,7 @@ module _ {M : Type 1} (𝓤 : URA M) (H : Heap 𝓤) (A : Atoms 𝓤) (at-mem : 
         (λ _. exE 𝓤 _ (λ ws. qed W (‵ (lasts expire-all-in.ended (ν ∷ [], tt) (under δ ys b o, (t, tt)) ws) ∷ raw (fact 𝓤 (ws .0 ≡ expiredRow ys t)) ∷ []) ∵ fsplit ! $ fsplit ! $ move ! (1 ∷ []) $ feqL ! (λ len. keep ! (0 ∷ 2 ∷ []) $
         by ! (told 𝓤 H A W (row-lent ys b o room .last δ) (λ zs. zs ≡ expiredRow ys t) (λ zs. (length zs ≡ length ys) × (zs ≡ expiredRow ys t)) (ws .0) (λ p. (len, p))))))
 
-    pub apply-in-gives : (ys : List Record) (b o c : ℕ) (e : Event) (room : Room R.the-row (length ys)) → GivesBack 𝓤 H A (row-lent ys b o room) ApplyIn (to-apply-in ys b o c e) U.the-row (λ u zs. (length zs ≡ length ys) × (Said ys c e u zs))
-    apply-in-gives ys b o c e room ν δ w = returned 𝓤 H A W ν U.the-row (row-lent ys b o room .last δ) (λ u zs. (length zs ≡ length ys) × (Said ys c e u zs)) (ensured 𝓤 H A apply-in.ended (apply-in.clauses 𝓤 H A at-mem run) (ν ∷ [], tt) (under δ ys b o, (c, (e, tt))) tt) w
-        (λ u. exE 𝓤 _ (λ ws. qed W (‵ (lasts apply-in.ended (ν ∷ [], tt) (under δ ys b o, (c, (e, tt))) ws) ∷ raw (fact 𝓤 (Said ys c e u (ws .0))) ∷ []) ∵ fsplit ! $ fsplit ! $ move ! (1 ∷ []) $ feqL ! (λ len. keep ! (0 ∷ 2 ∷ []) $
-        by ! (told 𝓤 H A W (row-lent ys b o room .last δ) (λ zs. Said ys c e u zs) (λ zs. (length zs ≡ length ys) × (Said ys c e u zs)) (ws .0) (λ p. (len, p))))))
+    pub apply-in-gives : (ys : List Record) (b o c : ℕ) (e : Event) (room : Room R.the-row (length ys)) → GivesBack 𝓤 H A (row-lent ys b o room) ApplyIn (to-apply-in ys b o c e) U.the-row (λ u zs. (length zs ≡ length ys) × (TurnSays ys c e u zs))
+    apply-in-gives ys b o c e room ν δ w = returned 𝓤 H A W ν U.the-row (row-lent ys b o room .last δ) (λ u zs. (length zs ≡ length ys) × (TurnSays ys c e u zs)) (ensured 𝓤 H A apply-in.ended (apply-in.clauses 𝓤 H A at-mem run) (ν ∷ [], tt) (under δ ys b o, (c, (e, tt))) tt) w
+        (λ u. exE 𝓤 _ (λ ws. qed W (‵ (lasts apply-in.ended (ν ∷ [], tt) (under δ ys b o, (c, (e, tt))) ws) ∷ raw (fact 𝓤 (TurnSays ys c e u (ws .0))) ∷ []) ∵ fsplit ! $ fsplit ! $ move ! (1 ∷ []) $ feqL ! (λ len. keep ! (0 ∷ 2 ∷ []) $
+        by ! (told 𝓤 H A W (row-lent ys b o room .last δ) (λ zs. TurnSays ys c e u zs) (λ zs. (length zs ≡ length ys) × (TurnSays ys c e u zs)) (ws .0) (λ p. (len, p))))))

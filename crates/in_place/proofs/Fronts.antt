@@ -34,7 +34,7 @@ use Rattle.lent_rows.specs.Row.{stateOf, rowOf}
 use Rattle.turns.specs.Turns.{placedBy}
 use Rattle.lent_rows.proofs.Choices.{best-front}
 use Rattle.rulings.proofs.Prompt.{seat-below}
-use Rattle.turns.proofs.Turns.{Said}
+use Rattle.turns.proofs.Turns.{TurnSays}
 
 -- ---- the front and the rest of a row that is stored to
 
@@ -161,7 +161,7 @@ module _ (s : State) (e : Event) where
       subst (λ (k : ℕ). Same (applied (record { count = k; clock = s .clock; records = take n l }) e) (applied s e)) (sym long) same
 
   -- the turn over the row, put back in front of what lies behind it
-  pub placed-is : n ≤ length l → (u : Turn) (zs : List Record) → Said (rowOf s) (s .clock) e u zs → placedBy u n (zs ++ drop n l) ≡ applied s e
+  pub placed-is : n ≤ length l → (u : Turn) (zs : List Record) → TurnSays (rowOf s) (s .clock) e u zs → placedBy u n (zs ++ drop n l) ≡ applied s e
   placed-is h u zs said =
       let g = in-place h in
       made (said .0 ∙ g .answer) (sym (count-stays s e)) (said .1 .0 ∙ g .clock) (ap (λ (r : List Record). r ++ drop n l) (said .1 .1) ∙ sym (whole g))

@@ -55,15 +55,15 @@ list-numbers s out = go (lists-is s out)
     go (short h) = inr refl
     go (whole h) = inl refl
 
-said-text : {s out t : List ℕ} {r : Listing} (n : ℕ) → Lists s out r t → listSaid r .sizes ≡ n ∷ [] → (length (listingOf s) ≤ length out) × (n ≡ length (listingOf s))
+said-text : {s out t : List ℕ} {r : Listing} (n : ℕ) → Lists s out r t → listSaid r .values ≡ n ∷ [] → (length (listingOf s) ≤ length out) × (n ≡ length (listingOf s))
 said-text n (short h) e = let z : _≡_ {A = ℕ} 0 1 = cc in absurd (omega arith)
 said-text n (whole h) e = (h, cc)
 
 -- the text is told, with the bytes that it takes, exactly when it is not longer than what is lent
 pub list-text : (s out : List ℕ) (n : ℕ)
-    → listSaid (listAnswer s (length out)) .sizes ≡ n ∷ [] ↔ (length (listingOf s) ≤ length out) × (n ≡ length (listingOf s))
+    → listSaid (listAnswer s (length out)) .values ≡ n ∷ [] ↔ (length (listingOf s) ≤ length out) × (n ≡ length (listingOf s))
 list-text s out n =
-    (said-text n (lists-is s out), λ h. ap (λ (r : Listing). listSaid r .sizes) (sym (lists-only {s = s} {out = out} (whole (h .0)) .0)) ∙ ap (λ (k : ℕ). k ∷ []) (sym (h .1)))
+    (said-text n (lists-is s out), λ h. ap (λ (r : Listing). listSaid r .values) (sym (lists-only {s = s} {out = out} (whole (h .0)) .0)) ∙ ap (λ (k : ℕ). k ∷ []) (sym (h .1)))
 
 refused-kept : {s out t : List ℕ} {n : ℕ} → Lists s out (Refused n) t → t ≡ out
 refused-kept (short h) = refl

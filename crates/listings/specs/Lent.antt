@@ -4,6 +4,7 @@ use mathlib.Core.Bool.{cond}
 use mathlib.Core.List.{List, [], _∷_, _++_}
 use lib.Dec.{ltb}
 use lib.ListN.{length, drop}
+use Rattle.laws.specs.Said.{Said}
 use Rattle.listings.specs.declared.Listing.{Listing}
 use Rattle.listings.specs.declared.Listing.the-variants.{Text, Refused}
 use Rattle.listing_text.specs.Listing.{listingOf}
@@ -24,11 +25,7 @@ listAnswer s lent = cond (ltb lent (length (listingOf s))) (Refused 14) (Text (l
 unfoldable pub listedInto : List ℕ → List ℕ → List ℕ
 listedInto s out = cond (ltb (length out) (length (listingOf s))) out (listingOf s ++ drop (length (listingOf s)) out)
 
--- document 01's number, 0 where nothing is refused, and how many of the lent bytes are the text
-pub record Said : Type 0 where
-  pub number : ℕ
-  pub sizes : List ℕ
-
-abbrev pub listSaid : Listing → Said
-listSaid (Text n) = record { number = 0; sizes = n ∷ [] }
-listSaid (Refused n) = record { number = n; sizes = [] }
+-- document 01's number, and how many of the lent bytes are the text
+abbrev pub listSaid : Listing → Said ℕ
+listSaid (Text n) = record { number = 0; values = n ∷ [] }
+listSaid (Refused n) = record { number = n; values = [] }

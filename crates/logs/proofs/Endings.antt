@@ -80,6 +80,15 @@ module _ (log : List ℕ) where
   pub ending-single : {a b : Ending} → Ends log a → Ends log b → a ≡ b
   ending-single = one-answer (Ends log) ends-is ends-only
 
+  -- whole is no bytes left
+  pub ending-whole : endingOf log ≡ E.Whole ↔ readRecord (restOf log) ≡ R.End
+  ending-whole = (go (readRecord (restOf log)) refl, λ q. rw q)
+    where
+      go : (r : Reading) → readRecord (restOf log) ≡ r → endedBy r (20 * readable log) ≡ E.Whole → r ≡ R.End
+      go (R.Event e) q z = absurd (rest-silent log e q)
+      go R.End q z = refl
+      go (R.Refused n) q z = let y : _≡_ {A = ℕ} 0 1 = cc in absurd (omega arith)
+
   -- ---- its number and its offset
 
   -- the number is that of the record at which the reading ended
@@ -96,18 +105,18 @@ module _ (log : List ℕ) where
   ending-most = rw ending-number (rest-most log)
 
   -- a log that is read to its end has none, and no offset
-  pub whole-said : 20 * readable log ≡ length log → endSaid (endingOf log) ≡ record { number = 0; offsets = [] }
+  pub whole-said : 20 * readable log ≡ length log → endSaid (endingOf log) ≡ record { number = 0; values = [] }
   whole-said q = rw (rest-end log .1 q)
 
   -- any other has 5, 6, 7 or 8, and the offset of the rest's first byte
   pub stopped-said : 0 < length (restOf log)
       → (5 ≤ endSaid (endingOf log) .number)
-      × ((endSaid (endingOf log) .number ≤ 8) × (endSaid (endingOf log) .offsets ≡ (length log - length (restOf log)) ∷ []))
+      × ((endSaid (endingOf log) .number ≤ 8) × (endSaid (endingOf log) .values ≡ (length log - length (restOf log)) ∷ []))
   stopped-said h =
       let w = rest-refused log h in
       rw (ending-number, rest-offset log) (w .0, (w .1, go (readRecord (restOf log)) (w .0)))
     where
-      go : (r : Reading) → 5 ≤ readSaid r .number → endSaid (endedBy r (20 * readable log)) .offsets ≡ (20 * readable log) ∷ []
+      go : (r : Reading) → 5 ≤ readSaid r .number → endSaid (endedBy r (20 * readable log)) .values ≡ (20 * readable log) ∷ []
       go (R.Event e) p = absurd (omega arith)
       go R.End p = absurd (omega arith)
       go (R.Refused n) p = refl

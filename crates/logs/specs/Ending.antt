@@ -3,6 +3,7 @@ use Prim.Native.Nat.{ℕ, _+_, _*_, _<_}
 use mathlib.Core.Path.{_≡_}
 use mathlib.Core.List.{List, [], _∷_}
 use lib.ListN.{length, drop}
+use Rattle.laws.specs.Said.{Said}
 use Rattle.events.specs.declared.Event.{Event}
 use Rattle.events.specs.declared.Reading.{Reading}
 use Rattle.events.specs.declared.Reading.the-variants as R
@@ -40,11 +41,7 @@ endingOf log = endingAt log (20 * readable log)
 abbrev pub endingFrom : List ℕ → ℕ → Ending
 endingFrom log from = endingAt log (from + 20 * readable (drop from log))
 
--- document 01's number and values: a refusal number, 0 where nothing is refused, and the offset that goes with one
-pub record EndSaid : Type 0 where
-  pub number : ℕ
-  pub offsets : List ℕ
-
-abbrev pub endSaid : Ending → EndSaid
-endSaid E.Whole = record { number = 0; offsets = [] }
-endSaid (E.Stopped n offset) = record { number = n; offsets = offset ∷ [] }
+-- document 01's number, and the offset that goes with one
+abbrev pub endSaid : Ending → Said ℕ
+endSaid E.Whole = record { number = 0; values = [] }
+endSaid (E.Stopped n offset) = record { number = n; values = offset ∷ [] }

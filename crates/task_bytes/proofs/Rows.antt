@@ -69,9 +69,9 @@ module _ (s : List ℕ) where
       go (suc y) = refl
 
   -- and a task is handed over exactly where there is no fault: the one that its bytes hold
-  pub row-tasks : (t : Task) → rowSaid (readRow s) .tasks ≡ t ∷ [] ↔ (recordFault s ≡ 0) × (t ≡ taskOf s)
+  pub row-tasks : (t : Task) → rowSaid (readRow s) .values ≡ t ∷ [] ↔ (recordFault s ≡ 0) × (t ≡ taskOf s)
   row-tasks t = (λ e. task-row t (go (readRow s) e), λ h. rw (row-task (h .0), h .1))
     where
-      go : (r : Row) → rowSaid r .tasks ≡ t ∷ [] → r ≡ Row.Task t
+      go : (r : Row) → rowSaid r .values ≡ t ∷ [] → r ≡ Row.Task t
       go (Row.Task u) e = let w : u ≡ t = cc in ap Row.Task w
       go (Row.Refused n) e = let z : _≡_ {A = ℕ} 0 1 = cc in absurd (omega arith)

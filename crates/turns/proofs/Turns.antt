@@ -130,8 +130,8 @@ module _ (l : List Record) (c : ℕ) (e : Event) where
   ruled-unsound b h t r z = z ∙ ap (λ (y : Bool). cond y here unsound) (sym (failed b t) ∙ h)
 
   -- what `apply_in` says of its result and of the row at exit
-  abbrev pub Said : Turn → List Record → Type 0
-  Said u zs = (u .answer ≡ applied (stateOf l c) e .answer) × ((u .clock ≡ applied (stateOf l c) e .state .clock) × (zs ≡ applied (stateOf l c) e .state .records))
+  abbrev pub TurnSays : Turn → List Record → Type 0
+  TurnSays u zs = (u .answer ≡ applied (stateOf l c) e .answer) × ((u .clock ≡ applied (stateOf l c) e .state .clock) × (zs ≡ applied (stateOf l c) e .state .records))
 
   module _ (r : Ruling) (q : r ≡ ruledRow l c e) where
     number : r .refusal ≡ ruledRow l c e .refusal
@@ -143,20 +143,20 @@ module _ (l : List Record) (c : ℕ) (e : Event) where
     pub accepted-some : T (eqb (r .refusal) 0) → 0 < length l
     accepted-some t = settles t .some
 
-    pub says-accepted : T (eqb (r .refusal) 0) → (a : Answer) (zs : List Record) → (a ≡ rowAnswer zs) × (zs ≡ settledRow l e (r .after)) → (u : Turn) → u ≡ acceptedTurn a e → Said u zs
+    pub says-accepted : T (eqb (r .refusal) 0) → (a : Answer) (zs : List Record) → (a ≡ rowAnswer zs) × (zs ≡ settledRow l e (r .after)) → (u : Turn) → u ≡ acceptedTurn a e → TurnSays u zs
     says-accepted t a zs z u w =
         let same = settles t .same in
         let told : a ≡ rowAnswer (settledRow l e (r .after)) = z .0 ∙ ap rowAnswer (z .1) in
         (ap (λ (x : Turn). x .answer) w ∙ told ∙ sym (ap (λ (x : Applied). x .answer) same), (ap (λ (x : Turn). x .clock) w ∙ sym (ap (λ (x : Applied). x .state .clock) same), z .1 ∙ sym (ap (λ (x : Applied). x .state .records) same)))
 
-    pub says-refused : T (not (eqb (r .refusal) 0)) → (u : Turn) → u ≡ refusedTurn r c → Said u l
+    pub says-refused : T (not (eqb (r .refusal) 0)) → (u : Turn) → u ≡ refusedTurn r c → TurnSays u l
     says-refused t u w =
         let f : r .refusal ≡ 0 → ⊥ = eqb-false (r .refusal) 0 (failed (eqb (r .refusal) 0) t) in
         let same : applied (stateOf l c) e ≡ refused (stateOf l c) (r .refusal) = turn-refused l c e (λ z. f (number ∙ z)) ∙ ap (refused (stateOf l c)) (sym number) in
         (ap (λ (x : Turn). x .answer) w ∙ sym (ap (λ (x : Applied). x .answer) same), (ap (λ (x : Turn). x .clock) w ∙ sym (ap (λ (x : Applied). x .state .clock) same), sym (ap (λ (x : Applied). x .state .records) same)))
 
   -- so a refused event leaves the row and the clock as lent
-  pub refused-as-lent : (m : ℕ) → (u : Turn) (zs : List Record) → Said u zs → u .answer ≡ Refused m → (u .clock ≡ c) × (zs ≡ l)
+  pub refused-as-lent : (m : ℕ) → (u : Turn) (zs : List Record) → TurnSays u zs → u .answer ≡ Refused m → (u .clock ≡ c) × (zs ≡ l)
   refused-as-lent m u zs said z =
       let same : applied (stateOf l c) e .state ≡ stateOf l c = refused-stays (stateOf l c) e m (sym (said .0) ∙ z) in
       (said .1 .0 ∙ ap (λ (x : State). x .clock) same, said .1 .1 ∙ ap (λ (x : State). x .records) same)

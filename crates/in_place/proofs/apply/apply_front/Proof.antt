@@ -60,7 +60,7 @@ use Rattle.in_place.proofs.Fronts.{placed-is}
 use Rattle.walks.proofs.Plain.{calls-plain}
 use Rattle.walks.proofs.Loans.{lent-row, calls-lent}
 use Rattle.walks.proofs.Rows.{array-row, row-whole, behind, cut-row, join-row}
-use Rattle.turns.proofs.Turns.{Said}
+use Rattle.turns.proofs.Turns.{TurnSays}
 use Rattle.in_place.proofs.apply.apply_in.Symbol as apply-in-def
 use Rattle.in_place.proofs.apply.apply_in.Symbol.{name as #in-place·apply·apply-in}
 use Rattle.in_place.proofs.apply.apply_in.Met as apply-in-thm
@@ -159,7 +159,7 @@ module _ {M : Type 1} (𝓤 : URA M) (H : Heap 𝓤) (A : Atoms 𝓤) (W : Given
         use1 W (‵ (row R.the-row fullShare front l₅ 0) ⊛ ‵ (behind R.the-row n ys l₅ 0)) (cut-row 𝓤 H A W R.the-row l₅ n ys 0) $ split ! $
         -- [the front; what lies behind; room for _9, 2; _8, 4; _7, 6; room for _6, 8; that _5 dies, 10; the event, 11; the clock, 13; the count, 15; _1, 17; room for _0, 19; …]
         calls-lent ! fm (lent-row 𝓤 H A W R.the-row front l₅ 0 room) (ApplyIn 𝓤 H A at-mem run) known (to-apply-in 𝓤 H A at-mem run front l₅ 0 c e) (goes-apply-in 𝓤 H A at-mem run W front l₅ 0 c e room c-fits e-is)
-        U.the-row (λ u zs. (length zs ≡ length front) × Said front c e u zs) (apply-in-gives 𝓤 H A at-mem run W front l₅ 0 c e room)
+        U.the-row (λ u zs. (length zs ≡ length front) × TurnSays front c e u zs) (apply-in-gives 𝓤 H A at-mem run W front l₅ 0 c e room)
         (λ ν δ. and-then ! (load ! (from ! (stop !)) (look ! 5 refl)) (and-then ! (load ! (from ! (stop !)) (look ! 14 refl)) (and-then ! (load ! (from ! (stop !)) (look ! 12 refl)) (no-more !)))) (λ w u zs said u-is.
         land ! (from ! (stop !)) (init ! 8 refl (LL.lawful U.the-type U′.the-laws 𝓤 H A W .typed u _ u-is .0)) $
         -- the local is whole again

@@ -62,7 +62,7 @@ use Rattle.in_place.proofs.Called.{row-val, event-val, event-vals, ruli
 use Rattle.walks.proofs.Operands.{reads-number}
 use Rattle.walks.proofs.Plain.{calls-plain-last, calls-read-last}
 use Rattle.walks.proofs.Loans.{under, Loan, lent-row, shared-row, GivesBack, returned, told, calls-lent}
-use Rattle.turns.proofs.Turns.{Said, accepted-some, says-accepted, says-refused}
+use Rattle.turns.proofs.Turns.{TurnSays, accepted-some, says-accepted, says-refused}
 use Rattle.in_place.proofs.apply.rule_in as rule-in
 use Rattle.in_place.proofs.apply.rule_in.Symbol as rule-in-def
 use Rattle.in_place.proofs.apply.rule_in.Symbol.{name as #in-place·apply·rule-in}
@@ -173,7 +173,7 @@ module _ {M : Type 1} (𝓤 : URA M) (H : Heap 𝓤) (A : Atoms 𝓤) (W : Given
   abbrev Post : Val → SProp 𝓤
   Post = walkOf 𝓤 H A apply-in.ended stayed (apply-in.clauses 𝓤 H A at-mem run) .post (((κ, tt), (q, tt), tt, a, at), tt)
 
-  exits : (u : Turn) (v : Val) (zs : List Record) → Is U.the-row u (v ∷ []) → length zs ≡ length ys → Said ys c e u zs
+  exits : (u : Turn) (v : Val) (zs : List Record) → Is U.the-row u (v ∷ []) → length zs ≡ length ys → TurnSays ys c e u zs
       → ent 𝓤 (⋆ 𝓤 H A (‵ (fobs γ (codedHoleys R.the-row .code (heres R.the-row zs))) ∷ ‵ (fbor κ (Held R.the-row (length zs) b o γ)) ∷ ‵ (flft κ q) ∷ [])) (Post v)
   exits u v zs is len said =
       qed W (‵ (fobs γ (codedHoleys R.the-row .code (heres R.the-row zs))) ∷ ‵ (fbor κ (Held R.the-row (length zs) b o γ)) ∷ ‵ (flft κ q) ∷ []) ∵
@@ -192,7 +192,7 @@ module _ {M : Type 1} (𝓤 : URA M) (H : Heap 𝓤) (A : Atoms 𝓤) (W : Given
       after-is = LL.owed Q.the-type Q′.the-laws r (ruling-val r ∷ []) is .1 .0
 
       -- the end of the body, once the ways have met: [the row; the open borrow; obs; auth; each local from the last, 4 + L k]
-      ends : (u : Turn) (v : Val) (zs : List Record) → Is U.the-row u (v ∷ []) → length zs ≡ length ys → Said ys c e u zs
+      ends : (u : Turn) (v : Val) (zs : List Record) → Is U.the-row u (v ∷ []) → length zs ≡ length ys → TurnSays ys c e u zs
           → Sq W (‵ (row R.the-row fullShare zs b o) ∷ ‵ (fobor κ q (Held R.the-row (length ys) b o γ)) ∷ ‵ (fobs γ (codedHoleys R.the-row .code (heres R.the-row ys))) ∷ ‵ (fauth γ (codedHoleys R.the-row .code (heres R.the-row ys)))
           ∷ ‵ (froom (sliceTy mutTy) l₁₁ 0) ∷ ‵ (fdies (sliceTy mutTy) l₁₁) ∷ ‵ (froom mutTy l₁₀ 0) ∷ ‵ (fdies mutTy l₁₀) ∷ ‵ (fat fullShare U′.mir l₉ 0 v) ∷ ‵ (fdies U′.mir l₉) ∷ ‵ (froom tyBool l₈ 0) ∷ ‵ (fdies tyBool l₈)
           ∷ ‵ (froom (sliceTy shrTy) l₇ 0) ∷ ‵ (fdies (sliceTy shrTy) l₇) ∷ ‵ (froom shrTy l₆ 0) ∷ ‵ (fdies shrTy l₆) ∷ ‵ (froom S′.mir l₅ 0) ∷ ‵ (fdies S′.mir l₅) ∷ ‵ (fat fullShare Q′.mir l₄ 0 (ruling-val r)) ∷ ‵ (fdies Q′.mir l₄)
