@@ -12,15 +12,6 @@ pub fn close_in(of: &mut Record, met: bool)
     *of = close(*of, met);
 }
 
-// Step 1 for one record: a late job is closed as missed.
-pub fn expire_in(of: &mut Record, time: u64)
-    ensures { λ _. ⌜ now (of .exit) ≡ expired (now (of .entry)) time ⌝ }
-{
-    if is_late(*of, time) {
-        close_in(of, false);
-    }
-}
-
 // The same by value: its contract says nothing of a reference, so whoever calls it needs no walk.
 pub fn close_of(of: Record, met: bool) -> Record
     ensures { λ r. ⌜ r ≡ closed of met ⌝ }
@@ -28,4 +19,13 @@ pub fn close_of(of: Record, met: bool) -> Record
     let mut one = of;
     close_in(&mut one, met);
     one
+}
+
+// Step 1 for one record: a late job is closed as missed.
+pub fn expire_in(of: &mut Record, time: u64)
+    ensures { λ _. ⌜ now (of .exit) ≡ expired (now (of .entry)) time ⌝ }
+{
+    if is_late(*of, time) {
+        close_in(of, false);
+    }
 }
