@@ -13,6 +13,7 @@ use lib.ListN.{length, getD, set, replicate, length-set, getD-replicate, List·g
 use lib.Seq.{getD-set-same, getD-set-other}
 use Rattle.laws.specs.Numbers.{oneIf}
 use Rattle.laws.specs.Sums.{total}
+use Rattle.laws.proofs.Numbers.{one-most}
 use Rattle.laws.proofs.Sums.{total-same, total-small}
 use Rattle.tables.specs.declared.Table.{Table}
 use Rattle.tables.specs.declared.Answer.the-variants.{Accepted}
@@ -61,11 +62,7 @@ module _ (t : Table) (k : ℕ) where
 
   -- no more tasks stand above than there are
   pub count-few : (i : ℕ) → countTo t k i ≤ i
-  count-few i = omega (arith, total-small (λ j. oneIf (isAbove t j k)) 1 i (λ j h. one (isAbove t j k)))
-    where
-      one : (b : Bool) → oneIf b ≤ 1
-      one true = le-refl 1
-      one false = omega arith
+  count-few i = omega (arith, total-small (λ j. oneIf (isAbove t j k)) 1 i (λ j h. one-most (isAbove t j k)))
 
   -- what the definition gathers, position by position
   parts-gathered : judged t ≡ Accepted → (i : ℕ) → i ≤ t .count → Gathered t k (partsTo t k i) (countTo t k i) i

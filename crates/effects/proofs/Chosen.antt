@@ -1,4 +1,5 @@
--- The answer of an accepted event is document 01's choice over the state that it leaves, and no other: the scan finds the least open job, and there is one only.
+-- The answer of an accepted event is document 01's choice over the state that it leaves, and no other: the scan finds the least open
+-- job, and there is one only.
 use Prim.Native.Nat.{ℕ, min, _<_}
 use mathlib.Core.Path.{_≡_, refl, sym, ap, subst, _∙_}
 use mathlib.Core.Bool.{true, false, cond}

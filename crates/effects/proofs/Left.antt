@@ -1,4 +1,5 @@
--- An accepted event leaves exactly the state that document 01's steps say: each of its three kinds does, and two states that they say are the same, place by place.
+-- An accepted event leaves exactly the state that document 01's steps say: each of its three kinds does, and two states that they say
+-- are the same, place by place.
 use Prim.Native.Nat.{ℕ, zero, suc, _≤_, _<_}
 use mathlib.Core.Path.{_≡_, refl, sym, ap, subst, _∙_}
 use mathlib.Core.Bool.{true, false}
@@ -60,7 +61,8 @@ module _ (s : State) (e : Event) where
         }
 
     -- the event's own record is x
-    one-leaves : (x : Record) → e .task < s .count → (e .kind ≡ 0 → ⊥) → (e .kind ≡ 1 → x ≡ reopened (afterOne s e) t) → (e .kind ≡ 2 → x ≡ closed (afterOne s e) true)
+    one-leaves : (x : Record) → e .task < s .count → (e .kind ≡ 0 → ⊥)
+        → (e .kind ≡ 1 → x ≡ reopened (afterOne s e) t) → (e .kind ≡ 2 → x ≡ closed (afterOne s e) true)
         → Leaves s e (moved s t (set (expiredAll s t) (e .task) x))
     one-leaves x c k r d =
         record {

@@ -156,7 +156,8 @@ module _ (s : State) (e : Event) where
         go : {a : Applied} → Took a → Becomes i (accepts (a .answer)) (recordAt (a .state) i)
         go (refusal n) = same
         go {a} (tick t k) =
-            taken (a .state) (subst (Becomes i true) (sym (all-passed i h)) (passes (other-kind 2 e i (λ z. omega arith)) (other-kind 1 e i (λ z. omega arith))))
+            taken (a .state)
+            (subst (Becomes i true) (sym (all-passed i h)) (passes (other-kind 2 e i (λ z. omega arith)) (other-kind 1 e i (λ z. omega arith))))
         go {a} (release t k c o) =
             taken (a .state) (one-changed (reopened (passed (e .task)) (e .time)) c
             (λ z. subst (λ (j : ℕ). Becomes i true (reopened (passed j) (e .time))) z (reopens (other-kind 2 e i (λ y. omega arith)) (own-task 1 e i k z))))
@@ -164,4 +165,5 @@ module _ (s : State) (e : Event) where
             taken (a .state) (one-changed (closed (passed (e .task)) true) c
             (λ z.
             subst (λ (j : ℕ). Becomes i true (closed (passed j) true)) z
-            (finishes (own-task 2 e i k z) (other-kind 1 e i (λ y. omega arith)) (ap (λ (j : ℕ). passed j .live) z ∙ is-open (passed (e .task)) (e .job) o .0))))
+            (finishes (own-task 2 e i k z) (other-kind 1 e i (λ y. omega arith))
+            (ap (λ (j : ℕ). passed j .live) z ∙ is-open (passed (e .task)) (e .job) o .0))))

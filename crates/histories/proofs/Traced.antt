@@ -44,7 +44,8 @@ module _ (t : Table) (good : judged t ≡ Accepted) where
       go (becomes (runState from es) e (room-for t good (runState from es) r) (r .sound) i (rw (r .count) h)) (open-traced es i h) refl refl l
     where
       go : {room : runState from es .count ≤ length (runState from es .records)} {b : Bool} {x : Record} → Becomes (runState from es) e room i b x
-          → (runRecord from es i .live ≡ true → Opened es i (runRecord from es i)) → isAccepted from es e ≡ b → recordAt (applied (runState from es) e .state) i ≡ x
+          → (runRecord from es i .live ≡ true → Opened es i (runRecord from es i)) → isAccepted from es e ≡ b
+          → recordAt (applied (runState from es) e .state) i ≡ x
           → x .live ≡ true → Opened (e ∷ es) i x
       go same ih a z o = earlier (ih o)
       go (passes m n) ih a z o =

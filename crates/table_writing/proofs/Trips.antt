@@ -1,5 +1,5 @@
--- A table that is written and read back has its count and its first tasks, and is the same where the rest is zero; bytes that read, written again, are the same:
--- record by record, from the round trips of a number.
+-- A table that is written and read back has its count and its first tasks, and is the same where the rest is zero; bytes that read,
+-- written again, are the same bytes: record by record, from the round trips of a number.
 use Prim.Native.Nat.{ℕ, zero, suc, _+_, _*_, _/_, _≤_, _<_}
 use mathlib.Core.Path.{_≡_, refl, sym, ap, _∙_}
 use mathlib.Core.List.{List, [], _∷_, _++_, append-assoc, append-nil}
