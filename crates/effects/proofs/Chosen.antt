@@ -2,11 +2,11 @@
 -- job, and there is one only.
 use Prim.Native.Nat.{ℕ, min, _<_}
 use mathlib.Core.Path.{_≡_, refl, sym, ap, subst, _∙_}
-use mathlib.Core.Bool.{true, false, cond}
+use mathlib.Core.Bool.{Bool, true, false, cond}
 use mathlib.Core.List.{[], _∷_}
 use mathlib.Core.Logic.{_↔_}
 use native.Mathlib.Omega.{arith}
-use lib.ListN.{getD}
+use lib.ListN.{length, getD}
 use Rattle.laws.specs.Said.{Said}
 use Rattle.laws.proofs.Answers.{exactly}
 use Rattle.laws.proofs.Tests.{true-not-false}
@@ -20,6 +20,9 @@ use Rattle.choices.proofs.Least.{best-is, least-exactly, least-one}
 use Rattle.states.specs.declared.State.{State}
 use Rattle.states.specs.State.{recordAt}
 use Rattle.states.specs.Sound.{StateSound}
+use Rattle.states.specs.Choice.{chosen}
+use Rattle.effects.specs.declared.Answer.{Answer}
+use Rattle.effects.specs.declared.Answer.the-variants.{Run, Idle, Refused}
 use Rattle.effects.specs.Answers.{answerSaid, refusalOf}
 use Rattle.effects.specs.Apply.{toldOf, answerOf, applied}
 use Rattle.effects.specs.Choice.{Chooses, runs, idles}
@@ -58,7 +61,56 @@ module _ (q : State) (sound : StateSound q) where
 
 -- ---- the answer of an accepted event
 
+-- how many values: two where a job runs, none else
+abbrev sizes : Said ℕ → ℕ
+sizes x = length (x .values)
+
 module _ (s : State) (e : Event) where
   pub choice-exactly : refusalOf (applied s e .answer) ≡ 0 → (a : Said ℕ) → (answerSaid (applied s e .answer) ≡ a) ↔ Chooses (applied s e .state) a
   choice-exactly o a =
       rw (answers-so s e o) (answer-exactly (applied s e .state) (applied-sound s (heard-by s e (accepts-by s e o) .sound) e) a)
+
+  -- `Run p c` exactly when the job at p is the least open one and c is its class; `Idle` exactly when nothing is open
+  module _ (o : refusalOf (applied s e .answer) ≡ 0) where
+    abbrev q : State
+    q = applied s e .state
+
+    abbrev IsRun : ℕ → ℕ → Type 0
+    IsRun p c = Least (q .records) (q .count) p × (recordAt q p .class ≡ c)
+
+    run-told : (p c : ℕ) (a : Said ℕ) → Chooses q a → a ≡ answerSaid (Run p c) → IsRun p c
+    run-told p c a (runs k l) z =
+        let y : k ≡ p = ap (λ (x : Said ℕ). getD (x .values) 0 0) z in
+        subst (λ (j : ℕ). IsRun j c) y (l, ap (λ (x : Said ℕ). getD (x .values) 1 0) z)
+    run-told p c a (idles n) z = let y : _≡_ {A = ℕ} 0 2 = ap sizes z in absurd (omega (arith, y))
+
+    is-run : (p c : ℕ) (a : Answer) → answerSaid a ≡ answerSaid (Run p c) → a ≡ Run p c
+    is-run p c (Run k d) z =
+        ap (λ (j : ℕ). Run j d) (ap (λ (x : Said ℕ). getD (x .values) 0 0) z) ∙ ap (Run p) (ap (λ (x : Said ℕ). getD (x .values) 1 0) z)
+    is-run p c Idle z = let y : _≡_ {A = ℕ} 0 2 = ap sizes z in absurd (omega (arith, y))
+    is-run p c (Refused n) z = let y : _≡_ {A = ℕ} 0 2 = ap sizes z in absurd (omega (arith, y))
+
+    pub run-exactly : (p c : ℕ) → (applied s e .answer ≡ Run p c) ↔ IsRun p c
+    run-exactly p c = (
+      λ z. run-told p c (answerSaid (Run p c)) (choice-exactly o (answerSaid (Run p c)) .0 (ap answerSaid z)) refl,
+      λ l.
+          is-run p c (applied s e .answer)
+          (choice-exactly o (answerSaid (Run p c)) .1 (subst (λ (k : ℕ). Chooses q (answerSaid (Run p k))) (l .1) (runs p (l .0)))),
+    )
+
+    idle-told : (a : Said ℕ) → Chooses q a → a ≡ answerSaid Idle → NoneOpen (q .records) (q .count)
+    idle-told a (runs p l) z = let y : _≡_ {A = ℕ} 2 0 = ap sizes z in absurd (omega (arith, y))
+    idle-told a (idles n) z = n
+
+    is-idle : (p c : ℕ) (b : Bool) → answerSaid (cond b (Run p c) Idle) ≡ answerSaid Idle → cond b (Run p c) Idle ≡ Idle
+    is-idle p c true z = let y : _≡_ {A = ℕ} 2 0 = ap sizes z in absurd (omega (arith, y))
+    is-idle p c false z = refl
+
+    pub idle-exactly : (applied s e .answer ≡ Idle) ↔ NoneOpen (q .records) (q .count)
+    idle-exactly = (
+      λ z. idle-told (answerSaid Idle) (choice-exactly o (answerSaid Idle) .0 (ap answerSaid z)) refl,
+      λ n.
+          rw (answers-so s e o)
+          (is-idle (chosen q .at) (recordAt q (chosen q .at) .class) (chosen q .found)
+          (rw (answers-so s e o) at (choice-exactly o (answerSaid Idle) .1 (idles n)))),
+    )
