@@ -7,7 +7,7 @@ cd "$(dirname "$0")/.."
 compiler
 work=$(mktemp -d)
 trap 'rm -rf "$work"' EXIT
-rt check listing >"$work/built" 2>&1 || {
+program listing >"$work/built" 2>&1 || {
     cat "$work/built"
     exit 1
 }
