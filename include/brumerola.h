@@ -34,10 +34,11 @@ extern "C" {
  *   41 to 44 the last event is refused by 9 to 12; refused events before it do not show
  * No other number is answered.
  *
- * What holds along a log, by theorem (`guarantee-by-answers` of crates/guarantee_of_logs): ask for its first 20 n bytes, for n = 1, 2 and so on. An answer
- * below 32 says that event n was accepted, and names the choice from its time on, until the next accepted event. If every task of the table has a
- * bound, and if, once an open job has been the choice for its C ticks at tick x, no event after x and no release at x is accepted while it is open, then
- * every job of class 0 that closes was completed within its task's bound, and any K closed jobs of a task in a row hold at most m misses.
+ * What holds along a log whose records all read, by theorem (`guarantee-by-answers` of crates/guarantee_of_logs): ask for its first 20 n bytes, for
+ * n = 1, 2 and so on. An answer below 32 says that event n was accepted, and names the choice from its time on, until the next accepted event. If every
+ * task of the table has a bound, and if, once an open job has been the choice for its C ticks at tick x, no event after x and no release at x is
+ * accepted while it is open, then every job of class 0 that closes was completed within its task's bound, and any K closed jobs of a task in a row hold
+ * at most m misses.
  *
  * Of the caller it asks that table and log each point to as many readable bytes as their size says, and that nothing writes to them during the call.
  * Where a size is 0 the pointer is not read through: it may be NULL. The two may overlap, and need no alignment. Every content and every size is
