@@ -1,5 +1,5 @@
 #!/usr/bin/env python3
-"""bound_cases.py FOLDER: makes the bound cases, stdin and stdout of crates/bound_cases, worked out from document 01 alone.
+"""bound_cases.py FOLDER: makes the bound cases, stdin and stdout of crates/case_bounds, worked out from the rules alone.
 
 Every R from 1 to D is tried in turn. It makes the same files every time."""
 import random
@@ -45,7 +45,7 @@ def refused(number, position, room):
 
 
 def told(rows):
-    """The line that document 01 asks for."""
+    """The line that the rules ask for."""
     n = len(rows)
     bounds = [bound(rows, k) for k in range(n)]
     line = "accepted"

@@ -1,4 +1,4 @@
-// A second engine, written from document 01 alone, and a generator of tables and logs: it compares the rig's codes and the listing's text
+// A second engine, written from the rules alone, and a generator of tables and logs: it compares the rig's codes and the listing's text
 // with its own. It shares nothing with the library.
 //
 //   peer vectors FOLDER                     its own answers against stored ones
@@ -580,7 +580,7 @@ fn run(tasks: &[Task], events: &[Event], seen: &mut Seen) -> (Vec<Result<Option<
     (answers, engine)
 }
 
-// ---- the two programs, as document 01 has them
+// ---- the two programs, as the rules have them
 
 fn rig(table: &[u8], log: &[u8], seen: &mut Seen) -> u32 {
     let code = rig_code(table, log, seen);

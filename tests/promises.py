@@ -13,7 +13,7 @@ missing = []
 
 # Public functions that break a rule, each with the rule (`requires`, `contract` or `equation`); docs/DECISIONS.md names each and says why.
 EXCEPTED = {
-    "response::search::bound_in": "requires",
+    "bound_search::search::bound_in": "requires",
 }
 
 

@@ -111,7 +111,7 @@ static void tick(uint64_t time) { event(0, 0, 0, time); }
 static void release(uint8_t of, uint64_t time) { event(1, of, 0, time); }
 static void complete(uint8_t of, uint64_t job, uint64_t time) { event(2, of, job, time); }
 
-/* Document 01's two tasks, and no events. */
+/* The rules' two tasks, and no events. */
 static void begin(void) {
     table.size = logged.size = 0;
     task(2, 4, 4, 1, 2);

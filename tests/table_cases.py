@@ -1,5 +1,5 @@
 #!/usr/bin/env python3
-"""table_cases.py FOLDER: makes the table cases, stdin and stdout of crates/table_cases, worked out from document 01 alone.
+"""table_cases.py FOLDER: makes the table cases, stdin and stdout of crates/case_tables, worked out from the rules alone.
 
 It makes the same files every time."""
 import math
@@ -31,7 +31,7 @@ def thresholds(m, k):
 
 
 def told(data):
-    """The line that document 01 asks for."""
+    """The line that the rules ask for."""
     if len(data) % 16 or not 1 <= len(data) // 16 <= 16:
         return "refused 1 at 0"
     rows = []

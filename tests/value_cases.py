@@ -1,5 +1,5 @@
 #!/usr/bin/env python3
-"""value_cases.py FOLDER: makes what crates/value_cases has to print of its event values, from document 01 alone; it reads nothing."""
+"""value_cases.py FOLDER: makes what crates/case_events has to print of its event values, from the rules alone; it reads nothing."""
 import sys
 
 from frames import store

@@ -7,9 +7,9 @@ use lib.ListN.{length, take, drop}
 use lib.Seq.{take-add, drop-at}
 use Rattle.laws.specs.Bytes.{AreBytes}
 use Rattle.laws.proofs.Bytes.{drop-bytes}
-use Rattle.events.specs.declared.Event.{Event}
-use Rattle.logs.specs.Log.{readableIn, readable, eventsIn, eventsOf}
-use Rattle.logs.proofs.Records.{goes-of, by-records}
+use Rattle.event_reading.specs.declared.Event.{Event}
+use Rattle.event_logs.specs.Log.{readableIn, readable, eventsIn, eventsOf}
+use Rattle.event_logs.proofs.Records.{goes-of, by-records}
 use Rattle.event_writing.specs.Writing.{recordOf, logOf, Writable}
 use Rattle.event_writing.proofs.WriteOne.{record-length}
 use Rattle.event_writing.proofs.Trips.{fields-back, written-read, record-back}

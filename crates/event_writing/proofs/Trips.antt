@@ -7,16 +7,16 @@ use lib.ListN.{length, take, drop, length-append, length-drop, take-append-drop}
 use lib.Seq.{take-at, drop-at, take-add, length-take-le}
 use Rattle.laws.specs.Bytes.{AreBytes}
 use Rattle.laws.proofs.Bytes.{drop-bytes, take-bytes}
-use Rattle.words.specs.Words.{number}
-use Rattle.word_writing.specs.Bytes.{bytes}
-use Rattle.word_writing.proofs.Places.{length-bytes}
-use Rattle.word_writing.proofs.Trips.{number-of-bytes, bytes-of-number}
-use Rattle.events.specs.declared.Event.{Event}
-use Rattle.events.specs.declared.Reading.the-variants as R
-use Rattle.events.specs.Event.{Ruled}
+use Rattle.number_reading.specs.Words.{number}
+use Rattle.number_writing.specs.Bytes.{bytes}
+use Rattle.number_writing.proofs.Places.{length-bytes}
+use Rattle.number_writing.proofs.Trips.{number-of-bytes, bytes-of-number}
+use Rattle.event_reading.specs.declared.Event.{Event}
+use Rattle.event_reading.specs.declared.Reading.the-variants as R
+use Rattle.event_reading.specs.Event.{Ruled}
 use Rattle.event_writing.specs.Writing.{Sized, recordOf, afterWrite, stored}
-use Rattle.events.specs.Record.{Marked, eventOf, readRecord, whole}
-use Rattle.events.proofs.ReadOne.{reads-only, event-of}
+use Rattle.event_reading.specs.Record.{Marked, eventOf, readRecord, whole}
+use Rattle.event_reading.proofs.ReadOne.{reads-only, event-of}
 use Rattle.event_writing.proofs.WriteOne.{record-length, writes-only}
 
 -- the numbers of a record, whatever stands behind it, are its event's

@@ -10,16 +10,16 @@ use lib.Dec.{ltb, eqb}
 use lib.ListN.{length, take, drop, set, length-drop, length-append}
 use lib.Seq.{take-at, drop-at, drop-drop, drop-append-add}
 use Rattle.laws.proofs.Parts.{tail-is, tail-last}
-use Rattle.word_writing.specs.Bytes.{bytes, wrote}
-use Rattle.word_writing.proofs.Places.{length-bytes}
-use Rattle.word_writing.proofs.Trips.{wrote-is}
-use Rattle.events.specs.declared.Event.{Event}
+use Rattle.number_writing.specs.Bytes.{bytes, wrote}
+use Rattle.number_writing.proofs.Places.{length-bytes}
+use Rattle.number_writing.proofs.Trips.{wrote-is}
+use Rattle.event_reading.specs.declared.Event.{Event}
 use Rattle.event_writing.specs.declared.Writing.{Writing}
 use Rattle.event_writing.specs.declared.Writing.the-variants as W
-use Rattle.events.specs.Event.{Zeroed, Ruled, Judged, unknown, stray, sound}
+use Rattle.event_reading.specs.Event.{Zeroed, Ruled, Judged, unknown, stray, sound}
 use Rattle.event_writing.specs.Writing.{headOf, recordOf, writeFault, wroteRecord, afterWrite, Writes, broken-7, broken-8, cramped, stored}
 use Rattle.event_writing.specs.Writing.{writtenSaid}
-use Rattle.events.proofs.Rules.{judged-only, judged-is}
+use Rattle.event_reading.proofs.Rules.{judged-only, judged-is}
 
 -- four stores make the head
 pub head-is : (s : List ℕ) (kind task : ℕ) → 4 ≤ length s → set (set (set (set s 0 0x45) 1 0x56) 2 kind) 3 task ≡ headOf kind task ++ drop 4 s

@@ -1,14 +1,14 @@
--- Document 01, "Writing", for events: the 20 bytes of an event, the value's own refusal, then 14; bytes past the record stay, and a refused write leaves all.
+-- Rules, "Order of refusals", for writing an event: the 20 bytes of an event, the value's own refusal, then 14; bytes past the record stay, and a refused write leaves all.
 use Prim.Native.Nat.{ℕ, _^_, _≤_, _<_}
 use mathlib.Core.Bool.{cond}
 use mathlib.Core.List.{List, [], _∷_, _++_}
 use lib.Dec.{ltb, eqb}
 use lib.ListN.{length, drop}
-use Rattle.word_writing.specs.Bytes.{bytes}
-use Rattle.events.specs.declared.Event.{Event}
+use Rattle.number_writing.specs.Bytes.{bytes}
+use Rattle.event_reading.specs.declared.Event.{Event}
 use Rattle.event_writing.specs.declared.Writing.{Writing}
 use Rattle.event_writing.specs.declared.Writing.the-variants as W
-use Rattle.events.specs.Event.{Zeroed, Ruled, faultOf}
+use Rattle.event_reading.specs.Event.{Zeroed, Ruled, faultOf}
 use Rattle.laws.specs.Said.{Said}
 
 -- the mark, the kind and the task
@@ -37,7 +37,7 @@ wroteRecord e s = cond (eqb (writeFault e s) 0) W.Whole (W.Refused (writeFault e
 unfoldable pub afterWrite : Event → List ℕ → List ℕ
 afterWrite e s = cond (eqb (writeFault e s) 0) (recordOf e ++ drop 20 s) s
 
--- document 01's number for each case
+-- the rules' number for each case
 abbrev pub writtenSaid : Writing → Said Event
 writtenSaid W.Whole = record { number = 0; values = [] }
 writtenSaid (W.Refused n) = record { number = n; values = [] }

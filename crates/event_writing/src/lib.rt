@@ -1,11 +1,11 @@
 // Writing the record of an event: the value's own refusal, then 14; bytes past the record stay, and a refused write leaves all.
-use events::Event;
-use events::judge;
+use event_reading::Event;
+use event_reading::judge;
 ghost use mathlib.Core.Path.{_≡_};
 ghost use mathlib.Core.List.{_++_};
 ghost use Prim.Native.Nat.{_+_, _≤_};
 ghost use lib.ListN.{length, take, drop};
-ghost use Rattle.word_writing.specs.Bytes.{bytes};
+ghost use Rattle.number_writing.specs.Bytes.{bytes};
 ghost use Rattle.event_writing.specs.Writing.{headOf, recordOf, wroteRecord, afterWrite};
 
 // What writing one record says.
@@ -30,7 +30,7 @@ fn put_number(out: &mut [u8], at: usize, x: u64)
     requires { ⌜ at + 8 ≤ length (now out) ⌝ }
     ensures { λ _. ⌜ now (out .exit) ≡ take at (now (out .entry)) ++ (bytes 8 x ++ drop (at + 8) (now (out .entry))) ⌝ }
 {
-    word_writing::put64(&mut out[at..], x);
+    number_writing::put64(&mut out[at..], x);
 }
 
 // Stores the record of an event; there is room for it.

@@ -8,18 +8,18 @@ use native.Mathlib.Nat.{le-refl}
 use native.Mathlib.Decide.{ℕ-discrete}
 use native.Mathlib.Omega.{arith}
 use Rattle.laws.proofs.Tests.{true-not-false, test-false}
-use Rattle.levels.specs.Level.{classOf}
-use Rattle.events.specs.declared.Event.{Event}
-use Rattle.tables.specs.declared.Task.{Task}
-use Rattle.records.specs.declared.Record.{Record}
-use Rattle.records.specs.Closing.{closed}
-use Rattle.jobs.specs.Opening.{expired, opened}
-use Rattle.soundness.proofs.Kept.{end}
-use Rattle.task_steps.specs.Steps.{tooSoon, reopened}
-use Rattle.effects.proofs.Kept.{spaced-by}
-use Rattle.histories.specs.History.{Job, closedJob}
-use Rattle.histories.proofs.Steps.{closed-idle, cleared, cleared-open, cleared-none, cleared-same, cleared-idle, Expired, over, stays, expiry, expired-same, expired-open}
-use Rattle.histories.proofs.Closes.{jobsWith, closes-none, closes-stays, closes-idle, closes-next, other-kind, other-task, own-task}
+use Rattle.task_levels.specs.Level.{classOf}
+use Rattle.event_reading.specs.declared.Event.{Event}
+use Rattle.table_rules.specs.declared.Task.{Task}
+use Rattle.task_records.specs.declared.Record.{Record}
+use Rattle.task_records.specs.Closing.{closed}
+use Rattle.task_steps.specs.Opening.{expired, opened}
+use Rattle.task_soundness.proofs.Kept.{end}
+use Rattle.task_steps.specs.Own.{tooSoon, reopened}
+use Rattle.apply_events.proofs.Kept.{spaced-by}
+use Rattle.run_histories.specs.History.{Job, closedJob}
+use Rattle.run_histories.proofs.Steps.{closed-idle, cleared, cleared-open, cleared-none, cleared-same, cleared-idle, Expired, over, stays, expiry, expired-same, expired-open}
+use Rattle.run_histories.proofs.Closes.{jobsWith, closes-none, closes-stays, closes-idle, closes-next, other-kind, other-task, own-task}
 use Rattle.guarantee.proofs.Busy.{keep, add}
 use Rattle.guarantee.proofs.Required.{isDue, due-intro, due-live, due-class, above-required, Fine, begun, fine-later, fine-missed, fine-met, fine-opened}
 use Rattle.guarantee.proofs.Levels.{upTo, Moment, costs, Level, viewOf, Steady, Given}

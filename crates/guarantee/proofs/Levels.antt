@@ -11,9 +11,9 @@ use borrow.Author.Tests.{eq-eqb, ne-eqb}
 use lib.Dec.{eqb}
 use Rattle.laws.specs.Numbers.{ceiling}
 use Rattle.laws.specs.Sums.{total}
-use Rattle.tables.specs.declared.Task.{Task}
-use Rattle.records.specs.declared.Record.{Record}
-use Rattle.histories.specs.History.{Job}
+use Rattle.table_rules.specs.declared.Task.{Task}
+use Rattle.task_records.specs.declared.Record.{Record}
+use Rattle.run_histories.specs.History.{Job}
 use Rattle.guarantee.proofs.Sums.{total-shift}
 use Rattle.guarantee.proofs.Busy.{View, Busy, share, cond-yes, cond-mono}
 use Rattle.guarantee.proofs.Required.{isDue, Fine, Gates}

@@ -1,4 +1,4 @@
--- The guarantee is not empty: document 01's listing events, as far as they obey the premise, are an instance, and so is a run whose task misses
+-- The guarantee is not empty: the rules' listing events, as far as they obey the premise, are an instance, and so is a run whose task misses
 -- m times outside the required class. By computation.
 use Prim.Native.Nat.{ℕ}
 use mathlib.Core.Path.{_≡_, refl}
@@ -10,29 +10,29 @@ use lib.Dec.{lit<}
 use lib.ListN.{replicate}
 use Rattle.laws.specs.Stores.{filled}
 use Rattle.laws.specs.Sums.{total}
-use Rattle.events.specs.declared.Event.{Event}
-use Rattle.events.specs.Event.{zeroes, faultOf}
-use Rattle.tables.specs.declared.Task.{Task}
-use Rattle.tables.specs.declared.Table.{Table}
-use Rattle.tables.specs.declared.Answer.the-variants.{Accepted}
-use Rattle.tables.specs.Rules.{taskFault, noTask}
-use Rattle.tables.specs.Judging.{firstFault, judged}
-use Rattle.records.specs.Closing.{closed}
-use Rattle.jobs.specs.Opening.{expired, opened}
-use Rattle.records.specs.Window.{windowOf}
-use Rattle.soundness.specs.Sound.{soundHolds}
-use Rattle.states.specs.State.{freshState}
-use Rattle.states.specs.Sound.{eachHolds, stateHolds}
-use Rattle.choices.specs.Choice.{bestTo}
-use Rattle.response.specs.Fits.{firstFit}
-use Rattle.demands.specs.Demand.{demand}
-use Rattle.all_bounds.specs.Asked.{boundCell, allAnswer}
-use Rattle.effects.specs.Apply.{ticked, releasedAt, completedAt, byKind, timed, acted, applied}
-use Rattle.histories.specs.History.{Job, runState, runRecord, jobsOf}
+use Rattle.event_reading.specs.declared.Event.{Event}
+use Rattle.event_reading.specs.Event.{zeroes, faultOf}
+use Rattle.table_rules.specs.declared.Task.{Task}
+use Rattle.table_rules.specs.declared.Table.{Table}
+use Rattle.table_rules.specs.declared.Answer.the-variants.{Accepted}
+use Rattle.table_rules.specs.Rules.{taskFault, noTask}
+use Rattle.table_rules.specs.Judging.{firstFault, judged}
+use Rattle.task_records.specs.Closing.{closed}
+use Rattle.task_steps.specs.Opening.{expired, opened}
+use Rattle.task_records.specs.Window.{windowOf}
+use Rattle.task_soundness.specs.Sound.{soundHolds}
+use Rattle.state_rules.specs.State.{freshState}
+use Rattle.state_rules.specs.Sound.{eachHolds, stateHolds}
+use Rattle.state_choice.specs.Choice.{bestTo}
+use Rattle.bound_search.specs.Fits.{firstFit}
+use Rattle.bound_demand.specs.Demand.{demand}
+use Rattle.bound_all.specs.Asked.{boundCell, allAnswer}
+use Rattle.apply_events.specs.Apply.{ticked, releasedAt, completedAt, byKind, timed, acted, applied}
+use Rattle.run_histories.specs.History.{Job, runState, runRecord, jobsOf}
 use Rattle.guarantee.specs.ChosenTime.{standsAt, chosenTime}
 use Rattle.guarantee.specs.Premise.{Premise}
 use Rattle.guarantee.specs.Guarantee.{Promise}
-use Rattle.histories.proofs.InOrder.{onto}
+use Rattle.run_histories.proofs.InOrder.{onto}
 use Rattle.guarantee.proofs.Trying.{shortTo, obeysAt, premise-by}
 use Rattle.guarantee.proofs.Theorem.{guarantee}
 
@@ -51,7 +51,7 @@ ticks time = record { kind = 0; task = 0; job = 0; time = time }
 abbrev pub jobOf : ℕ → ℕ → ℕ → ℕ → Bool → Job
 jobOf number release class closing met = record { number = number; release = release; class = class; closing = closing; met = met }
 
--- document 01's table: bounds 2 and 7
+-- the rules' table: bounds 2 and 7
 abbrev pub listed : Table
 listed = record { count = 2; tasks = taskOf 2 4 4 1 2 ∷ taskOf 3 7 8 1 3 ∷ replicate 14 noTask }
 
@@ -64,7 +64,7 @@ abbrev pub seven : List Event
 seven =
     finishes 0 1 6 ∷ finishes 1 1 5 ∷ releases 0 4 ∷ releases 0 3 ∷ finishes 0 1 2 ∷ releases 1 0 ∷ releases 0 0 ∷ []
 
--- the same in document 01's order
+-- the same in the rules' order
 pub seven-in-order : onto (releases 0 0 ∷ releases 1 0 ∷ finishes 0 1 2 ∷ releases 0 3 ∷ releases 0 4 ∷ finishes 1 1 5 ∷ finishes 0 1 6 ∷ []) [] ≡ seven
 seven-in-order = refl
 

@@ -12,28 +12,28 @@ use lib.ListN.{replicate}
 use Rattle.laws.specs.Stores.{filled}
 use Rattle.laws.specs.Sums.{total}
 use Rattle.laws.proofs.Tests.{true-not-false}
-use Rattle.events.specs.declared.Event.{Event}
-use Rattle.events.specs.Event.{zeroes, faultOf}
-use Rattle.tables.specs.declared.Table.{Table}
-use Rattle.tables.specs.declared.Answer.the-variants as Answer
-use Rattle.tables.specs.Rules.{taskFault, noTask}
-use Rattle.tables.specs.Judging.{firstFault, judged}
-use Rattle.records.specs.declared.Record.{Record}
-use Rattle.records.specs.Closing.{closed}
-use Rattle.jobs.specs.Opening.{fresh, expired, opened, noRecord}
-use Rattle.records.specs.Window.{windowOf}
-use Rattle.soundness.specs.Sound.{soundHolds}
-use Rattle.states.specs.declared.State.{State}
-use Rattle.states.specs.State.{freshState}
-use Rattle.states.specs.Sound.{eachHolds, stateHolds}
-use Rattle.choices.specs.Choice.{bestTo}
-use Rattle.response.specs.Fits.{firstFit}
-use Rattle.demands.specs.Demand.{demand}
-use Rattle.bounds.specs.declared.Bound.the-variants as Bound
-use Rattle.all_bounds.specs.Asked.{allAnswer}
-use Rattle.bounds.specs.Asked.{oneAnswer}
-use Rattle.effects.specs.Apply.{ticked, releasedAt, completedAt, byKind, timed, acted, applied}
-use Rattle.histories.specs.History.{Job, runState, runRecord, jobsOf}
+use Rattle.event_reading.specs.declared.Event.{Event}
+use Rattle.event_reading.specs.Event.{zeroes, faultOf}
+use Rattle.table_rules.specs.declared.Table.{Table}
+use Rattle.table_rules.specs.declared.Answer.the-variants as Answer
+use Rattle.table_rules.specs.Rules.{taskFault, noTask}
+use Rattle.table_rules.specs.Judging.{firstFault, judged}
+use Rattle.task_records.specs.declared.Record.{Record}
+use Rattle.task_records.specs.Closing.{closed}
+use Rattle.task_steps.specs.Opening.{fresh, expired, opened, noRecord}
+use Rattle.task_records.specs.Window.{windowOf}
+use Rattle.task_soundness.specs.Sound.{soundHolds}
+use Rattle.state_rules.specs.declared.State.{State}
+use Rattle.state_rules.specs.State.{freshState}
+use Rattle.state_rules.specs.Sound.{eachHolds, stateHolds}
+use Rattle.state_choice.specs.Choice.{bestTo}
+use Rattle.bound_search.specs.Fits.{firstFit}
+use Rattle.bound_demand.specs.Demand.{demand}
+use Rattle.bound_one.specs.declared.Bound.the-variants as Bound
+use Rattle.bound_all.specs.Asked.{allAnswer}
+use Rattle.bound_one.specs.Asked.{oneAnswer}
+use Rattle.apply_events.specs.Apply.{ticked, releasedAt, completedAt, byKind, timed, acted, applied}
+use Rattle.run_histories.specs.History.{Job, runState, runRecord, jobsOf}
 use Rattle.guarantee.specs.ChosenTime.{standsAt, chosenTime}
 use Rattle.guarantee.specs.Premise.{Premise}
 use Rattle.guarantee.specs.Guarantee.{Promise}

@@ -9,20 +9,20 @@ use native.Mathlib.Omega.{arith}
 use borrow.Author.Tests.{eq-eqb, ne-eqb, eqb-true}
 use lib.Dec.{eqb}
 use Rattle.laws.proofs.Tests.{true-not-false, both-hold}
-use Rattle.levels.specs.Level.{classOf}
-use Rattle.tables.specs.declared.Task.{Task}
-use Rattle.tables.specs.Rules.{taskFault}
-use Rattle.records.specs.declared.Record.{Record}
-use Rattle.records.specs.Closing.{closed}
-use Rattle.jobs.specs.Opening.{fresh, opened}
-use Rattle.soundness.specs.Sound.{Sound}
-use Rattle.soundness.proofs.Kept.{end, fresh-sound, closed-sound, opened-sound, later-sound}
-use Rattle.windows.specs.History.{rungOf}
-use Rattle.windows.specs.Bound.{Ledger}
-use Rattle.windows.proofs.Ledgers.{ledger-fresh, ledger-opened, ledger-met, ledger-missed}
-use Rattle.histories.specs.History.{Job, outcomesOf, Each}
+use Rattle.task_levels.specs.Level.{classOf}
+use Rattle.table_rules.specs.declared.Task.{Task}
+use Rattle.table_rules.specs.Rules.{taskFault}
+use Rattle.task_records.specs.declared.Record.{Record}
+use Rattle.task_records.specs.Closing.{closed}
+use Rattle.task_steps.specs.Opening.{fresh, opened}
+use Rattle.task_soundness.specs.Sound.{Sound}
+use Rattle.task_soundness.proofs.Kept.{end, fresh-sound, closed-sound, opened-sound, later-sound}
+use Rattle.run_windows.specs.History.{rungOf}
+use Rattle.run_windows.specs.Bound.{Ledger}
+use Rattle.run_windows.proofs.Ledgers.{ledger-fresh, ledger-opened, ledger-met, ledger-missed}
+use Rattle.run_histories.specs.History.{Job, outcomesOf, Each}
 use Rattle.guarantee.specs.Guarantee.{Good}
-use Rattle.histories.proofs.Steps.{closed-same, closed-idle}
+use Rattle.run_histories.proofs.Steps.{closed-same, closed-idle}
 
 -- an open job of the required class
 abbrev pub isDue : Record → Bool

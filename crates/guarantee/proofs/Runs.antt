@@ -11,37 +11,37 @@ use native.Mathlib.Omega.{arith}
 use borrow.Author.Tests.{eq-eqb}
 use lib.ListN.{length, set}
 use Rattle.laws.proofs.Tests.{true-not-false, tells-true}
-use Rattle.events.specs.declared.Event.{Event}
-use Rattle.tables.specs.declared.Task.{Task}
-use Rattle.tables.specs.declared.Table.{Table}
-use Rattle.tables.specs.declared.Answer.the-variants.{Accepted}
-use Rattle.tables.specs.Judging.{judged}
-use Rattle.tables.proofs.Exactly.{judged-accepted}
-use Rattle.records.specs.declared.Record.{Record}
-use Rattle.records.specs.Closing.{closed}
-use Rattle.soundness.proofs.Kept.{end}
-use Rattle.states.specs.declared.State.{State}
-use Rattle.choices.specs.declared.Best.{Best}
-use Rattle.states.specs.State.{recordAt, freshState}
-use Rattle.states.specs.Choice.{chosen}
-use Rattle.jobs.specs.Rank.{Before}
-use Rattle.choices.specs.Least.{Chosen, Found, some, nothing}
-use Rattle.choices.proofs.Least.{best-is}
-use Rattle.states.proofs.Starting.{fresh-at}
-use Rattle.demands.specs.Above.{taskAt, isAbove}
-use Rattle.demands.proofs.Order.{above-tells}
-use Rattle.demands.proofs.Obeyed.{deadline-most}
-use Rattle.effects.specs.declared.Applied.{Applied}
-use Rattle.task_steps.specs.Steps.{tooSoon, reopened}
-use Rattle.effects.specs.Steps.{expiredAll}
-use Rattle.effects.specs.Apply.{accepted, applied}
-use Rattle.histories.specs.History.{runState, runRecord, accepts, isAccepted, jobsOf}
+use Rattle.event_reading.specs.declared.Event.{Event}
+use Rattle.table_rules.specs.declared.Task.{Task}
+use Rattle.table_rules.specs.declared.Table.{Table}
+use Rattle.table_rules.specs.declared.Answer.the-variants.{Accepted}
+use Rattle.table_rules.specs.Judging.{judged}
+use Rattle.table_rules.proofs.Exactly.{judged-accepted}
+use Rattle.task_records.specs.declared.Record.{Record}
+use Rattle.task_records.specs.Closing.{closed}
+use Rattle.task_soundness.proofs.Kept.{end}
+use Rattle.state_rules.specs.declared.State.{State}
+use Rattle.state_choice.specs.declared.Best.{Best}
+use Rattle.state_rules.specs.State.{recordAt, freshState}
+use Rattle.state_rules.specs.Choice.{chosen}
+use Rattle.task_steps.specs.Rank.{Before}
+use Rattle.state_choice.specs.Least.{Chosen, Found, some, nothing}
+use Rattle.state_choice.proofs.Least.{best-is}
+use Rattle.state_rules.proofs.Starting.{fresh-at}
+use Rattle.bound_demand.specs.Above.{taskAt, isAbove}
+use Rattle.bound_demand.proofs.Order.{above-tells}
+use Rattle.bound_demand.proofs.Obeyed.{deadline-most}
+use Rattle.apply_events.specs.declared.Applied.{Applied}
+use Rattle.task_steps.specs.Own.{tooSoon, reopened}
+use Rattle.apply_events.specs.Steps.{expiredAll}
+use Rattle.apply_events.specs.Apply.{accepted, applied}
+use Rattle.run_histories.specs.History.{runState, runRecord, accepts, isAccepted, jobsOf}
 use Rattle.guarantee.specs.ChosenTime.{isChoice, openTime}
 use Rattle.guarantee.specs.Premise.{Timely, Premise}
-use Rattle.histories.proofs.Steps.{Same, expired-same, is-open}
-use Rattle.histories.proofs.Taken.{accepts-answer, passed, Took, refusal, tick, release, completion, took, all-passed, set-there, set-elsewhere}
-use Rattle.histories.proofs.Reached.{Reached, room-for, reached}
-use Rattle.histories.proofs.Closes.{closes-stays}
+use Rattle.run_histories.proofs.Steps.{Same, expired-same, is-open}
+use Rattle.run_histories.proofs.Taken.{accepts-answer, passed, Took, refusal, tick, release, completion, took, all-passed, set-there, set-elsewhere}
+use Rattle.run_histories.proofs.Reached.{Reached, room-for, reached}
+use Rattle.run_histories.proofs.Closes.{closes-stays}
 use Rattle.guarantee.proofs.Ticks.{time-rises, time-before, time-unmoved, time-chosen}
 use Rattle.guarantee.proofs.Busy.{keep, rebase}
 use Rattle.guarantee.proofs.Required.{fresh-fine}

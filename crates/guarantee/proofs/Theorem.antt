@@ -5,27 +5,27 @@ use mathlib.Core.Path.{_≡_}
 use mathlib.Core.List.{List}
 use native.Mathlib.Omega.{arith}
 use Rattle.laws.proofs.Tests.{tells-true}
-use Rattle.events.specs.declared.Event.{Event}
-use Rattle.tables.specs.declared.Table.{Table}
-use Rattle.tables.specs.declared.Answer.the-variants.{Accepted}
-use Rattle.tables.specs.Judging.{judged}
-use Rattle.tables.proofs.Exactly.{judged-accepted}
-use Rattle.tables.proofs.Ruling.{fault-none}
-use Rattle.states.specs.State.{freshState}
-use Rattle.windows.proofs.Bound.{ledger-kept}
-use Rattle.demands.specs.Above.{taskAt, isAbove}
-use Rattle.response.specs.Bound.{IsBound}
-use Rattle.demands.specs.Demand.{spacingOf, demand}
-use Rattle.response.proofs.Meets.{bound-is}
-use Rattle.demands.proofs.Obeyed.{times}
-use Rattle.demands.proofs.Order.{above-tells, goes-on}
-use Rattle.all_bounds.specs.Asked.{allAnswer, boundCell}
-use Rattle.all_bounds.proofs.Exactly.{all-accepted}
+use Rattle.event_reading.specs.declared.Event.{Event}
+use Rattle.table_rules.specs.declared.Table.{Table}
+use Rattle.table_rules.specs.declared.Answer.the-variants.{Accepted}
+use Rattle.table_rules.specs.Judging.{judged}
+use Rattle.table_rules.proofs.Exactly.{judged-accepted}
+use Rattle.table_rules.proofs.Ruling.{fault-none}
+use Rattle.state_rules.specs.State.{freshState}
+use Rattle.run_windows.proofs.Bound.{ledger-kept}
+use Rattle.bound_demand.specs.Above.{taskAt, isAbove}
+use Rattle.bound_search.specs.Bound.{IsBound}
+use Rattle.bound_demand.specs.Demand.{spacingOf, demand}
+use Rattle.bound_search.proofs.Meets.{bound-is}
+use Rattle.bound_demand.proofs.Obeyed.{times}
+use Rattle.bound_demand.proofs.Order.{above-tells, goes-on}
+use Rattle.bound_all.specs.Asked.{allAnswer, boundCell}
+use Rattle.bound_all.proofs.Exactly.{all-accepted}
 use Rattle.guarantee.specs.Guarantee.{Promise, Guarantee}
 use Rattle.guarantee.specs.Premise.{Premise}
 use Rattle.guarantee.proofs.Required.{plain, plain-gates}
 use Rattle.guarantee.proofs.Levels.{Given, allowance, allow, fit}
-use Rattle.histories.proofs.Jobs.{history}
+use Rattle.run_histories.proofs.Jobs.{history}
 use Rattle.guarantee.proofs.Runs.{steady}
 
 module _ (t : Table) (room : ℕ) (ok : allAnswer t room ≡ Accepted) where

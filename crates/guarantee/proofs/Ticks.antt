@@ -11,9 +11,9 @@ use lib.Dec.{leb}
 use Rattle.laws.specs.Numbers.{oneIf}
 use Rattle.laws.specs.Sums.{total}
 use Rattle.laws.proofs.Sums.{total-same}
-use Rattle.events.specs.declared.Event.{Event}
-use Rattle.states.specs.declared.State.{State}
-use Rattle.histories.specs.History.{runState}
+use Rattle.event_reading.specs.declared.Event.{Event}
+use Rattle.state_rules.specs.declared.State.{State}
+use Rattle.run_histories.specs.History.{runState}
 use Rattle.guarantee.specs.ChosenTime.{standsAt, isChoice, chosenTime}
 
 -- a longer sum is no smaller

@@ -11,9 +11,9 @@ use borrow.Author.Tests.{eq-eqb, ltb-true}
 use lib.Dec.{eqb, ltb}
 use Rattle.laws.specs.Tests.{whenever}
 use Rattle.laws.proofs.Tests.{both-hold, whenever-holds}
-use Rattle.events.specs.declared.Event.{Event}
-use Rattle.states.specs.declared.State.{State}
-use Rattle.histories.specs.History.{runRecord, isAccepted}
+use Rattle.event_reading.specs.declared.Event.{Event}
+use Rattle.state_rules.specs.declared.State.{State}
+use Rattle.run_histories.specs.History.{runRecord, isAccepted}
 use Rattle.guarantee.specs.ChosenTime.{openTime}
 use Rattle.guarantee.specs.Premise.{Waits, Timely, Premise}
 use Rattle.guarantee.proofs.Ticks.{time-rises}
@@ -80,7 +80,7 @@ unfolding Obeys Premise
 premise-of s [] o = tt
 premise-of s (e ∷ es) o = (premise-of s es (o .0), o .1)
 
--- document 01's: a release's own tick, or the one before another event's
+-- the rules': a release's own tick, or the one before another event's
 abbrev pub shortAt : Event → ℕ
 shortAt e = cond (eqb (e .kind) 1) (e .time) (e .time - 1)
 

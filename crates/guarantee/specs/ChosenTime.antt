@@ -1,15 +1,15 @@
--- Document 01, "Chosen time": the number of ticks for which a job was the choice, counted no further than its deadline.
+-- Rules, "Chosen time": the number of ticks for which a job was the choice, counted no further than its deadline.
 use Prim.Native.Nat.{ℕ, _+_, min}
 use mathlib.Core.Bool.{Bool, false, cond}
 use mathlib.Core.List.{List, [], _∷_}
 use lib.Dec.{eqb, leb}
 use Rattle.laws.specs.Numbers.{oneIf}
 use Rattle.laws.specs.Sums.{total}
-use Rattle.events.specs.declared.Event.{Event}
-use Rattle.states.specs.declared.State.{State}
-use Rattle.states.specs.State.{recordAt}
-use Rattle.states.specs.Choice.{chosen}
-use Rattle.histories.specs.History.{runState, runRecord}
+use Rattle.event_reading.specs.declared.Event.{Event}
+use Rattle.state_rules.specs.declared.State.{State}
+use Rattle.state_rules.specs.State.{recordAt}
+use Rattle.state_rules.specs.Choice.{chosen}
+use Rattle.run_histories.specs.History.{runState, runRecord}
 
 -- the state that stands at tick y: the last one whose clock is not after y, of a run that starts at clock 0
 unfoldable pub standsAt : State → List Event → ℕ → State

@@ -3,15 +3,15 @@ use Prim.Native.Nat.{ℕ, _+_, _≤_, _<_}
 use mathlib.Core.Path.{_≡_}
 use mathlib.Core.Bool.{true}
 use mathlib.Core.List.{List, [], _∷_}
-use Rattle.events.specs.declared.Event.{Event}
-use Rattle.tables.specs.declared.Table.{Table}
-use Rattle.tables.specs.declared.Answer.the-variants.{Accepted}
-use Rattle.windows.specs.Bound.{Kept}
-use Rattle.states.specs.declared.State.{State}
-use Rattle.states.specs.State.{freshState}
-use Rattle.demands.specs.Above.{taskAt}
-use Rattle.all_bounds.specs.Asked.{allAnswer, boundCell}
-use Rattle.histories.specs.History.{Job, Each, runRecord, jobsOf, outcomesOf}
+use Rattle.event_reading.specs.declared.Event.{Event}
+use Rattle.table_rules.specs.declared.Table.{Table}
+use Rattle.table_rules.specs.declared.Answer.the-variants.{Accepted}
+use Rattle.run_windows.specs.Bound.{Kept}
+use Rattle.state_rules.specs.declared.State.{State}
+use Rattle.state_rules.specs.State.{freshState}
+use Rattle.bound_demand.specs.Above.{taskAt}
+use Rattle.bound_all.specs.Asked.{allAnswer, boundCell}
+use Rattle.run_histories.specs.History.{Job, Each, runRecord, jobsOf, outcomesOf}
 use Rattle.guarantee.specs.Premise.{Premise}
 
 -- a closed job that opened in class 0 was met, at most the bound after its release

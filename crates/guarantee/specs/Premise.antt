@@ -1,12 +1,12 @@
--- Document 01, "Chosen time": demand 3's premise. Once an open job's chosen time reaches C at tick x, no event of any kind after x and no
+-- Rules, "Chosen time": demand 3's premise. Once an open job's chosen time reaches C at tick x, no event of any kind after x and no
 -- release at x is accepted while that job is open, that is, open in the state in which the event arrives.
 use Prim.Native.Nat.{ℕ, _≤_, _<_}
 use mathlib.Core.Path.{_≡_}
 use mathlib.Core.Bool.{true}
 use mathlib.Core.List.{List, [], _∷_}
-use Rattle.events.specs.declared.Event.{Event}
-use Rattle.states.specs.declared.State.{State}
-use Rattle.histories.specs.History.{runRecord, isAccepted}
+use Rattle.event_reading.specs.declared.Event.{Event}
+use Rattle.state_rules.specs.declared.State.{State}
+use Rattle.run_histories.specs.History.{runRecord, isAccepted}
 use Rattle.guarantee.specs.ChosenTime.{openTime}
 
 -- what an accepted event owes to an open job whose chosen time has reached C at x

@@ -9,34 +9,34 @@ use native.Mathlib.Omega.{arith}
 use lib.ListN.{length, take}
 use lib.Seq.{take-suc, length-take-le}
 use Rattle.laws.proofs.Tests.{by-test, true-not-false, tells-true}
-use Rattle.tables.specs.declared.Answer.the-variants.{Accepted}
-use Rattle.table_bytes.specs.Reading.{readTable}
-use Rattle.events.specs.declared.Event.{Event}
-use Rattle.logs.specs.Log.{readable, eventsOf}
-use Rattle.logs.proofs.Records.{readable-fits}
-use Rattle.logs.specs.declared.Ending.the-variants as E
-use Rattle.logs.specs.Ending.{endingOf}
-use Rattle.logs.proofs.Rests.{rest-end}
-use Rattle.logs.proofs.Endings.{ending-whole}
-use Rattle.states.specs.declared.State.{State}
-use Rattle.states.specs.State.{recordAt}
-use Rattle.states.specs.Sound.{StateSound}
-use Rattle.states.specs.Choice.{chosen}
-use Rattle.states.proofs.Sounding.{state-tells}
-use Rattle.choices.proofs.Least.{found-below}
-use Rattle.effects.specs.declared.Answer.{Answer}
-use Rattle.effects.specs.declared.Answer.the-variants as A
-use Rattle.effects.specs.declared.Applied.{Applied}
-use Rattle.effects.specs.Apply.{answerOf, applied}
-use Rattle.effects.specs.Log.{standing, ran}
-use Rattle.effects.proofs.Runs.{ran-by}
-use Rattle.histories.specs.History.{accepts}
-use Rattle.histories.proofs.Taken.{refused-leaves, answers-choice}
-use Rattle.codes.specs.Code.{codeFor, ofAnswer, codeOf, begins}
-use Rattle.codes.specs.Given.{Begun, Whole, last}
-use Rattle.codes.proofs.Starts.{begins-sound, begins-idle}
-use Rattle.codes.proofs.Exactly.{given-exactly}
-use Rattle.codes.proofs.Told.{empty-log}
+use Rattle.table_rules.specs.declared.Answer.the-variants.{Accepted}
+use Rattle.table_reading.specs.Table.{readTable}
+use Rattle.event_reading.specs.declared.Event.{Event}
+use Rattle.event_logs.specs.Log.{readable, eventsOf}
+use Rattle.event_logs.proofs.Records.{readable-fits}
+use Rattle.event_logs.specs.declared.Ending.the-variants as E
+use Rattle.event_logs.specs.Ending.{endingOf}
+use Rattle.event_logs.proofs.Rests.{rest-end}
+use Rattle.event_logs.proofs.Endings.{ending-whole}
+use Rattle.state_rules.specs.declared.State.{State}
+use Rattle.state_rules.specs.State.{recordAt}
+use Rattle.state_rules.specs.Sound.{StateSound}
+use Rattle.state_rules.specs.Choice.{chosen}
+use Rattle.state_rules.proofs.Sounding.{state-tells}
+use Rattle.state_choice.proofs.Least.{found-below}
+use Rattle.apply_events.specs.declared.Answer.{Answer}
+use Rattle.apply_events.specs.declared.Answer.the-variants as A
+use Rattle.apply_events.specs.declared.Applied.{Applied}
+use Rattle.apply_events.specs.Apply.{answerOf, applied}
+use Rattle.apply_events.specs.Log.{standing, ran}
+use Rattle.apply_events.proofs.Runs.{ran-by}
+use Rattle.run_histories.specs.History.{accepts}
+use Rattle.run_histories.proofs.Taken.{refused-leaves, answers-choice}
+use Rattle.rig_codes.specs.Code.{codeFor, ofAnswer, codeOf, begins}
+use Rattle.rig_codes.specs.Given.{Begun, Whole, last}
+use Rattle.rig_codes.proofs.Starts.{begins-sound, begins-idle}
+use Rattle.rig_codes.proofs.Exactly.{given-exactly}
+use Rattle.rig_codes.proofs.Told.{empty-log}
 use Rattle.guarantee_of_logs.specs.Places.{eventAt, afterFirst, acceptedAt}
 use Rattle.guarantee_of_logs.specs.Bytes.{BothRead}
 use Rattle.guarantee_of_logs.specs.Codes.{codeAfter, choiceCode, CodeTells, at-first, last-accepted, last-refused, CodesOfLogs}

@@ -6,13 +6,13 @@ use native.Mathlib.Omega.{arith}
 use borrow.Author.Tests.{ne-eqb, le-ltb}
 use lib.ListN.{length, getD, take, drop, length-append, length-drop, take-append-drop, List·getD-append}
 use lib.Seq.{take-add, take-append-le, drop-append-le, drop-at, length-take-le}
-use Rattle.events.specs.declared.Event.{Event}
-use Rattle.events.specs.declared.Reading.the-variants as R
-use Rattle.events.specs.Record.{marks, eventOf, readRecord}
-use Rattle.logs.specs.Log.{readable, restOf, eventsIn, eventsOf}
-use Rattle.logs.proofs.Records.{readable-fits}
-use Rattle.logs.proofs.Rests.{rest-end}
-use Rattle.logs.proofs.Logs.{goes-at, events-more, events-none}
+use Rattle.event_reading.specs.declared.Event.{Event}
+use Rattle.event_reading.specs.declared.Reading.the-variants as R
+use Rattle.event_reading.specs.Record.{marks, eventOf, readRecord}
+use Rattle.event_logs.specs.Log.{readable, restOf, eventsIn, eventsOf}
+use Rattle.event_logs.proofs.Records.{readable-fits}
+use Rattle.event_logs.proofs.Rests.{rest-end}
+use Rattle.event_logs.proofs.Logs.{goes-at, events-more, events-none}
 
 module _ (p q : List ℕ) (h : 20 ≤ length p) where
   byte-front : (k : ℕ) → k < 20 → getD (p ++ q) k 0 ≡ getD p k 0

@@ -1,5 +1,5 @@
--- The guarantee for bytes is not empty: document 01's table and its first seven listing events, as bytes, are an instance, and the C function's
--- answers along them are those that document 01 lists. By computation.
+-- The guarantee for bytes is not empty: the rules' table and its first seven listing events, as bytes, are an instance, and the C function's
+-- answers along them are those that the rules list. By computation.
 use Prim.Native.Nat.{ℕ}
 use mathlib.Core.Path.{_≡_, refl}
 use mathlib.Core.List.{List, [], _∷_, _++_, map}
@@ -8,28 +8,28 @@ use lib.Count.{ones, onesIn}
 use lib.Dec.{lit<}
 use Rattle.laws.specs.Stores.{filled}
 use Rattle.laws.specs.Sums.{total}
-use Rattle.words.specs.Words.{number}
-use Rattle.events.specs.declared.Event.{Event}
-use Rattle.events.specs.Event.{zeroes, faultOf}
-use Rattle.events.specs.Record.{marks, readRecord}
-use Rattle.logs.specs.Log.{readableIn, readable, eventsIn, eventsOf}
-use Rattle.tables.specs.declared.Answer.the-variants.{Accepted}
-use Rattle.tables.specs.Rules.{taskFault}
-use Rattle.tables.specs.Judging.{firstFault, judged}
-use Rattle.task_bytes.specs.Reading.{recordFault}
-use Rattle.table_bytes.specs.Reading.{readAnswer, readTable}
-use Rattle.records.specs.Closing.{closed}
-use Rattle.jobs.specs.Opening.{expired, opened}
-use Rattle.soundness.specs.Sound.{soundHolds}
-use Rattle.states.specs.State.{freshState}
-use Rattle.states.specs.Sound.{eachHolds, stateHolds}
-use Rattle.choices.specs.Choice.{bestTo}
-use Rattle.effects.specs.Apply.{ticked, releasedAt, completedAt, byKind, timed, acted, applied}
-use Rattle.effects.specs.Log.{ranOver, ran}
-use Rattle.response.specs.Fits.{firstFit}
-use Rattle.demands.specs.Demand.{demand}
-use Rattle.all_bounds.specs.Asked.{allAnswer}
-use Rattle.codes.specs.Code.{logCase, caseOf, codeOf, begins}
+use Rattle.number_reading.specs.Words.{number}
+use Rattle.event_reading.specs.declared.Event.{Event}
+use Rattle.event_reading.specs.Event.{zeroes, faultOf}
+use Rattle.event_reading.specs.Record.{marks, readRecord}
+use Rattle.event_logs.specs.Log.{readableIn, readable, eventsIn, eventsOf}
+use Rattle.table_rules.specs.declared.Answer.the-variants.{Accepted}
+use Rattle.table_rules.specs.Rules.{taskFault}
+use Rattle.table_rules.specs.Judging.{firstFault, judged}
+use Rattle.table_reading.specs.Row.{recordFault}
+use Rattle.table_reading.specs.Table.{readAnswer, readTable}
+use Rattle.task_records.specs.Closing.{closed}
+use Rattle.task_steps.specs.Opening.{expired, opened}
+use Rattle.task_soundness.specs.Sound.{soundHolds}
+use Rattle.state_rules.specs.State.{freshState}
+use Rattle.state_rules.specs.Sound.{eachHolds, stateHolds}
+use Rattle.state_choice.specs.Choice.{bestTo}
+use Rattle.apply_events.specs.Apply.{ticked, releasedAt, completedAt, byKind, timed, acted, applied}
+use Rattle.apply_events.specs.Log.{ranOver, ran}
+use Rattle.bound_search.specs.Fits.{firstFit}
+use Rattle.bound_demand.specs.Demand.{demand}
+use Rattle.bound_all.specs.Asked.{allAnswer}
+use Rattle.rig_codes.specs.Code.{logCase, caseOf, codeOf, begins}
 use Rattle.guarantee.proofs.Listing.{releases, finishes, ticks, listed, seven-obey, eighth-late}
 use Rattle.guarantee_of_logs.specs.Premise.{LogObeys}
 use Rattle.guarantee_of_logs.specs.Keeps.{LogKeeps}
@@ -57,7 +57,7 @@ abbrev bytesOf : List Event → List ℕ
 bytesOf [] = []
 bytesOf (e ∷ es) = recordBytes e ++ bytesOf es
 
--- in document 01's order
+-- in the rules' order
 abbrev pub sevenEvents : List Event
 sevenEvents = releases 0 0 ∷ releases 1 0 ∷ finishes 0 1 2 ∷ releases 0 3 ∷ releases 0 4 ∷ finishes 1 1 5 ∷ finishes 0 1 6 ∷ []
 

@@ -6,16 +6,16 @@ use native.Mathlib.Omega.{arith}
 use borrow.Author.Tests.{eqb-true}
 use lib.Dec.{eqb}
 use Rattle.laws.proofs.Tests.{true-not-false, both-hold}
-use Rattle.events.specs.declared.Event.{Event}
-use Rattle.states.specs.declared.State.{State}
-use Rattle.states.specs.State.{recordAt}
-use Rattle.states.specs.Sound.{StateSound}
-use Rattle.effects.specs.declared.Applied.{Applied}
-use Rattle.effects.specs.Apply.{applied}
-use Rattle.histories.specs.History.{closes, completes}
-use Rattle.histories.proofs.Closes.{closes-stays}
-use Rattle.histories.proofs.Steps.{expired-same, is-open}
-use Rattle.histories.proofs.Taken.{passed, Took, refusal, tick, release, completion, took}
+use Rattle.event_reading.specs.declared.Event.{Event}
+use Rattle.state_rules.specs.declared.State.{State}
+use Rattle.state_rules.specs.State.{recordAt}
+use Rattle.state_rules.specs.Sound.{StateSound}
+use Rattle.apply_events.specs.declared.Applied.{Applied}
+use Rattle.apply_events.specs.Apply.{applied}
+use Rattle.run_histories.specs.History.{closes, completes}
+use Rattle.run_histories.proofs.Closes.{closes-stays}
+use Rattle.run_histories.proofs.Steps.{expired-same, is-open}
+use Rattle.run_histories.proofs.Taken.{passed, Took, refusal, tick, release, completion, took}
 
 pub named : (s : State) (e : Event) → StateSound s → (i : ℕ) → closes (recordAt s i) (recordAt (applied s e .state) i) ≡ true → completes e i ≡ true
     → e .job ≡ recordAt s i .released

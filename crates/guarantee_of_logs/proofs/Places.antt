@@ -9,14 +9,14 @@ use lib.ListN.{length, take}
 use lib.Seq.{take-length}
 use Rattle.laws.specs.Numbers.{oneIf}
 use Rattle.laws.proofs.Sums.{total-same}
-use Rattle.events.specs.declared.Event.{Event}
-use Rattle.states.specs.declared.State.{State}
-use Rattle.states.specs.Sound.{StateSound}
-use Rattle.effects.specs.Apply.{applied}
-use Rattle.effects.specs.Log.{stateAfter}
-use Rattle.effects.proofs.Kept.{applied-sound}
-use Rattle.histories.specs.History.{Job, runState, runRecord, closes, closedJob, jobsOf, outcomesOf}
-use Rattle.histories.proofs.InOrder.{onto, told-in-order}
+use Rattle.event_reading.specs.declared.Event.{Event}
+use Rattle.state_rules.specs.declared.State.{State}
+use Rattle.state_rules.specs.Sound.{StateSound}
+use Rattle.apply_events.specs.Apply.{applied}
+use Rattle.apply_events.specs.Log.{stateAfter}
+use Rattle.apply_events.proofs.Kept.{applied-sound}
+use Rattle.run_histories.specs.History.{Job, runState, runRecord, closes, closedJob, jobsOf, outcomesOf}
+use Rattle.run_histories.proofs.InOrder.{onto, told-in-order}
 use Rattle.guarantee.specs.ChosenTime.{standsAt, isChoice, chosenTime, openTime}
 use Rattle.guarantee_of_logs.specs.Places.{eventAt, afterFirst}
 use Rattle.guarantee_of_logs.specs.ChosenTime.{standingAt, chosenAfter, openAfter}

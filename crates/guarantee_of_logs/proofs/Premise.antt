@@ -8,10 +8,10 @@ use native.Mathlib.Decide.{ℕ-discrete}
 use native.Mathlib.Nat.{le-refl, not-suc-le-zero}
 use native.Mathlib.Omega.{arith}
 use lib.ListN.{length}
-use Rattle.events.specs.declared.Event.{Event}
-use Rattle.states.specs.declared.State.{State}
-use Rattle.histories.specs.History.{isAccepted}
-use Rattle.histories.proofs.InOrder.{onto}
+use Rattle.event_reading.specs.declared.Event.{Event}
+use Rattle.state_rules.specs.declared.State.{State}
+use Rattle.run_histories.specs.History.{isAccepted}
+use Rattle.run_histories.proofs.InOrder.{onto}
 use Rattle.guarantee.specs.Premise.{Timely, Premise}
 use Rattle.guarantee_of_logs.specs.Places.{eventAt, acceptedAt}
 use Rattle.guarantee_of_logs.specs.Premise.{TimelyAt, LogObeys}

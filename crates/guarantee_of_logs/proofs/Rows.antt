@@ -6,9 +6,9 @@ use mathlib.Core.List.{List, [], _∷_, _++_, reverse, reverse-cons, reverse-app
 use native.Mathlib.Omega.{arith}
 use lib.ListN.{length, length-reverse}
 use lib.Seq.{take-append-seam, drop-append-seam}
-use Rattle.tables.specs.declared.Task.{Task}
-use Rattle.windows.specs.Outcomes.{misses}
-use Rattle.windows.specs.Bound.{Within}
+use Rattle.table_rules.specs.declared.Task.{Task}
+use Rattle.run_windows.specs.Outcomes.{misses}
+use Rattle.run_windows.specs.Bound.{Within}
 use Rattle.guarantee_of_logs.specs.Keeps.{EachRow}
 
 misses-append : (a b : List Bool) → misses (a ++ b) ≡ misses a + misses b

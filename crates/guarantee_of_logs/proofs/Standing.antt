@@ -13,19 +13,19 @@ use lib.Dec.{leb, ltb}
 use lib.ListN.{length, take}
 use Rattle.laws.proofs.Answers.{exactly}
 use Rattle.laws.proofs.Tests.{true-not-false}
-use Rattle.events.specs.declared.Event.{Event}
-use Rattle.logs.specs.Log.{eventsOf}
-use Rattle.states.specs.declared.State.{State}
-use Rattle.states.specs.Sound.{StateSound}
-use Rattle.effects.specs.declared.Applied.{Applied}
-use Rattle.effects.specs.Apply.{applied}
-use Rattle.effects.specs.Log.{stateAfter}
-use Rattle.histories.specs.History.{accepts}
-use Rattle.histories.proofs.Taken.{Took, refusal, tick, release, completion, took}
-use Rattle.codes.proofs.Starts.{begins-sound, begins-idle}
+use Rattle.event_reading.specs.declared.Event.{Event}
+use Rattle.event_logs.specs.Log.{eventsOf}
+use Rattle.state_rules.specs.declared.State.{State}
+use Rattle.state_rules.specs.Sound.{StateSound}
+use Rattle.apply_events.specs.declared.Applied.{Applied}
+use Rattle.apply_events.specs.Apply.{applied}
+use Rattle.apply_events.specs.Log.{stateAfter}
+use Rattle.run_histories.specs.History.{accepts}
+use Rattle.run_histories.proofs.Taken.{Took, refusal, tick, release, completion, took}
+use Rattle.rig_codes.proofs.Starts.{begins-sound, begins-idle}
 use Rattle.guarantee_of_logs.specs.Places.{eventAt, afterFirst}
 use Rattle.guarantee_of_logs.specs.ChosenTime.{standingAt, StandsLast}
-use Rattle.codes.specs.Code.{begins}
+use Rattle.rig_codes.specs.Code.{begins}
 use Rattle.guarantee_of_logs.specs.Bytes.{BothRead}
 use Rattle.guarantee_of_logs.specs.Codes.{choiceCode, CodeTells, last-accepted, last-refused}
 use Rattle.guarantee_of_logs.specs.CodeTime.{standingCode}

@@ -9,18 +9,18 @@ use borrow.Author.Tests.{eqb-true}
 use lib.Dec.{eqb}
 use lib.ListN.{length}
 use Rattle.laws.proofs.Tests.{both-hold}
-use Rattle.events.specs.declared.Event.{Event}
-use Rattle.tables.specs.declared.Table.{Table}
-use Rattle.tables.specs.declared.Answer.the-variants.{Accepted}
-use Rattle.table_bytes.specs.Reading.{readTable}
-use Rattle.logs.specs.Log.{eventsOf}
-use Rattle.states.specs.declared.State.{State}
-use Rattle.states.specs.State.{freshState}
-use Rattle.demands.specs.Above.{taskAt}
-use Rattle.all_bounds.specs.Asked.{allAnswer, boundCell}
-use Rattle.all_bounds.proofs.Exactly.{all-accepted}
-use Rattle.histories.specs.History.{runState, closedJob, jobsOf}
-use Rattle.histories.proofs.Reached.{reached}
+use Rattle.event_reading.specs.declared.Event.{Event}
+use Rattle.table_rules.specs.declared.Table.{Table}
+use Rattle.table_rules.specs.declared.Answer.the-variants.{Accepted}
+use Rattle.table_reading.specs.Table.{readTable}
+use Rattle.event_logs.specs.Log.{eventsOf}
+use Rattle.state_rules.specs.declared.State.{State}
+use Rattle.state_rules.specs.State.{freshState}
+use Rattle.bound_demand.specs.Above.{taskAt}
+use Rattle.bound_all.specs.Asked.{allAnswer, boundCell}
+use Rattle.bound_all.proofs.Exactly.{all-accepted}
+use Rattle.run_histories.specs.History.{runState, closedJob, jobsOf}
+use Rattle.run_histories.proofs.Reached.{reached}
 use Rattle.guarantee.specs.Guarantee.{Good, Promise}
 use Rattle.guarantee.proofs.Theorem.{guarantee}
 use Rattle.guarantee_of_logs.specs.Places.{eventAt, recordAfter}

@@ -13,34 +13,34 @@ use lib.ListN.{length, getD, set}
 use Rattle.laws.specs.Numbers.{oneIf}
 use Rattle.laws.proofs.Sums.{total-same}
 use Rattle.laws.proofs.Tests.{same-test}
-use Rattle.events.specs.declared.Event.{Event}
-use Rattle.tables.specs.declared.Table.{Table}
-use Rattle.tables.specs.declared.Answer.the-variants.{Accepted}
-use Rattle.tables.specs.Judging.{judged}
-use Rattle.table_bytes.specs.Reading.{readTable}
-use Rattle.table_bytes.proofs.Given.{read-good}
-use Rattle.logs.specs.Log.{eventsOf}
-use Rattle.records.specs.declared.Record.{Record}
-use Rattle.records.specs.Closing.{closed}
-use Rattle.jobs.specs.Opening.{opened, noRecord}
-use Rattle.task_steps.specs.Steps.{reopened}
-use Rattle.states.specs.declared.State.{State}
-use Rattle.states.specs.State.{recordAt, freshState}
-use Rattle.states.specs.Sound.{StateSound}
-use Rattle.states.specs.Choice.{chosen}
-use Rattle.effects.specs.declared.Applied.{Applied}
-use Rattle.effects.specs.Steps.{expiredAll}
-use Rattle.effects.specs.Apply.{applied}
-use Rattle.effects.specs.Log.{stateAfter}
-use Rattle.histories.proofs.Steps.{closed-same, cleared-same, expired-same}
-use Rattle.histories.proofs.Taken.{passed, Took, refusal, tick, release, completion, took, refused-leaves, all-passed, set-there, set-elsewhere}
-use Rattle.histories.proofs.Reached.{Reached, room-for, reached}
+use Rattle.event_reading.specs.declared.Event.{Event}
+use Rattle.table_rules.specs.declared.Table.{Table}
+use Rattle.table_rules.specs.declared.Answer.the-variants.{Accepted}
+use Rattle.table_rules.specs.Judging.{judged}
+use Rattle.table_reading.specs.Table.{readTable}
+use Rattle.table_reading.proofs.Given.{read-good}
+use Rattle.event_logs.specs.Log.{eventsOf}
+use Rattle.task_records.specs.declared.Record.{Record}
+use Rattle.task_records.specs.Closing.{closed}
+use Rattle.task_steps.specs.Opening.{opened, noRecord}
+use Rattle.task_steps.specs.Own.{reopened}
+use Rattle.state_rules.specs.declared.State.{State}
+use Rattle.state_rules.specs.State.{recordAt, freshState}
+use Rattle.state_rules.specs.Sound.{StateSound}
+use Rattle.state_rules.specs.Choice.{chosen}
+use Rattle.apply_events.specs.declared.Applied.{Applied}
+use Rattle.apply_events.specs.Steps.{expiredAll}
+use Rattle.apply_events.specs.Apply.{applied}
+use Rattle.apply_events.specs.Log.{stateAfter}
+use Rattle.run_histories.proofs.Steps.{closed-same, cleared-same, expired-same}
+use Rattle.run_histories.proofs.Taken.{passed, Took, refusal, tick, release, completion, took, refused-leaves, all-passed, set-there, set-elsewhere}
+use Rattle.run_histories.proofs.Reached.{Reached, room-for, reached}
 use Rattle.guarantee.specs.ChosenTime.{isChoice}
-use Rattle.codes.proofs.Starts.{answer-is, begins-sound}
+use Rattle.rig_codes.proofs.Starts.{answer-is, begins-sound}
 use Rattle.guarantee_of_logs.specs.Places.{eventAt, afterFirst, recordAfter, acceptedAt}
 use Rattle.guarantee_of_logs.specs.ChosenTime.{standingAt, chosenAfter, openAfter}
 use Rattle.guarantee_of_logs.specs.Premise.{LogObeys}
-use Rattle.codes.specs.Code.{begins}
+use Rattle.rig_codes.specs.Code.{begins}
 use Rattle.guarantee_of_logs.specs.Bytes.{BothRead}
 use Rattle.guarantee_of_logs.specs.Codes.{choiceCode, codeAfter}
 use Rattle.guarantee_of_logs.specs.CodeTime.{standingCode, codeTime, CodesObey, AnswersOfLogs}

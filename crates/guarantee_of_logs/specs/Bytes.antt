@@ -2,10 +2,10 @@
 use Prim.Native.Nat.{ℕ}
 use mathlib.Core.Path.{_≡_}
 use mathlib.Core.List.{List}
-use Rattle.tables.specs.declared.Answer.the-variants.{Accepted}
-use Rattle.table_bytes.specs.Reading.{readTable}
-use Rattle.logs.specs.declared.Ending.the-variants.{Whole}
-use Rattle.logs.specs.Ending.{endingOf}
+use Rattle.table_rules.specs.declared.Answer.the-variants.{Accepted}
+use Rattle.table_reading.specs.Table.{readTable}
+use Rattle.event_logs.specs.declared.Ending.the-variants.{Whole}
+use Rattle.event_logs.specs.Ending.{endingOf}
 
 -- the table reads, and the log to its end
 pub record BothRead (table log : List ℕ) : Type 0 where

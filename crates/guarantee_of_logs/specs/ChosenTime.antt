@@ -1,4 +1,4 @@
--- Document 01, "Chosen time": the number of ticks for which a job was the choice, counted no further than its deadline; by places of the log.
+-- Rules, "Chosen time": the number of ticks for which a job was the choice, counted no further than its deadline; by places of the log.
 use Prim.Native.Nat.{ℕ, zero, suc, _+_, min, _≤_, _<_}
 use mathlib.Core.Path.{_≡_}
 use mathlib.Core.Bool.{cond}
@@ -6,8 +6,8 @@ use mathlib.Core.List.{List}
 use lib.Dec.{leb}
 use Rattle.laws.specs.Numbers.{oneIf}
 use Rattle.laws.specs.Sums.{total}
-use Rattle.events.specs.declared.Event.{Event}
-use Rattle.states.specs.declared.State.{State}
+use Rattle.event_reading.specs.declared.Event.{Event}
+use Rattle.state_rules.specs.declared.State.{State}
 use Rattle.guarantee.specs.ChosenTime.{isChoice}
 use Rattle.guarantee_of_logs.specs.Places.{afterFirst, recordAfter}
 

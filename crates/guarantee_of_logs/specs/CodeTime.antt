@@ -8,13 +8,13 @@ use lib.Dec.{eqb, leb, ltb}
 use lib.ListN.{length}
 use Rattle.laws.specs.Numbers.{oneIf}
 use Rattle.laws.specs.Sums.{total}
-use Rattle.logs.specs.Log.{eventsOf}
-use Rattle.records.specs.declared.Record.{Record}
+use Rattle.event_logs.specs.Log.{eventsOf}
+use Rattle.task_records.specs.declared.Record.{Record}
 use Rattle.guarantee.specs.Premise.{Waits}
 use Rattle.guarantee_of_logs.specs.Places.{eventAt, recordAfter}
 use Rattle.guarantee_of_logs.specs.ChosenTime.{standingAt, openAfter}
 use Rattle.guarantee_of_logs.specs.Premise.{LogObeys}
-use Rattle.codes.specs.Code.{begins}
+use Rattle.rig_codes.specs.Code.{begins}
 use Rattle.guarantee_of_logs.specs.Bytes.{BothRead}
 use Rattle.guarantee_of_logs.specs.Codes.{codeAfter, choiceCode}
 

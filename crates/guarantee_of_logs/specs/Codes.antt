@@ -4,13 +4,13 @@ use mathlib.Core.Path.{_≡_}
 use mathlib.Core.Bool.{true, false, cond}
 use mathlib.Core.List.{List}
 use lib.ListN.{length, take}
-use Rattle.events.specs.declared.Event.{Event}
-use Rattle.logs.specs.Log.{eventsOf}
-use Rattle.states.specs.declared.State.{State}
-use Rattle.states.specs.Choice.{chosen}
-use Rattle.effects.specs.declared.Answer.the-variants.{Refused}
-use Rattle.effects.specs.Apply.{applied}
-use Rattle.codes.specs.Code.{codeOf, begins}
+use Rattle.event_reading.specs.declared.Event.{Event}
+use Rattle.event_logs.specs.Log.{eventsOf}
+use Rattle.state_rules.specs.declared.State.{State}
+use Rattle.state_rules.specs.Choice.{chosen}
+use Rattle.apply_events.specs.declared.Answer.the-variants.{Refused}
+use Rattle.apply_events.specs.Apply.{applied}
+use Rattle.rig_codes.specs.Code.{codeOf, begins}
 use Rattle.guarantee_of_logs.specs.Places.{eventAt, afterFirst, acceptedAt}
 use Rattle.guarantee_of_logs.specs.Bytes.{BothRead}
 

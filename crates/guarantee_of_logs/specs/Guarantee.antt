@@ -3,13 +3,13 @@ use Prim.Native.Nat.{ℕ, _≤_, _<_}
 use mathlib.Core.Path.{_≡_}
 use mathlib.Core.List.{List}
 use lib.ListN.{length}
-use Rattle.tables.specs.declared.Answer.the-variants.{Accepted}
-use Rattle.table_bytes.specs.Reading.{readTable}
-use Rattle.logs.specs.Log.{eventsOf}
-use Rattle.all_bounds.specs.Asked.{allAnswer}
+use Rattle.table_rules.specs.declared.Answer.the-variants.{Accepted}
+use Rattle.table_reading.specs.Table.{readTable}
+use Rattle.event_logs.specs.Log.{eventsOf}
+use Rattle.bound_all.specs.Asked.{allAnswer}
 use Rattle.guarantee_of_logs.specs.Premise.{LogObeys}
 use Rattle.guarantee_of_logs.specs.Keeps.{LogKeeps}
-use Rattle.codes.specs.Code.{begins}
+use Rattle.rig_codes.specs.Code.{begins}
 use Rattle.guarantee_of_logs.specs.Bytes.{BothRead}
 use Rattle.guarantee_of_logs.specs.CodeTime.{CodesObey}
 

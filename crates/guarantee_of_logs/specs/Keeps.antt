@@ -4,16 +4,16 @@ use mathlib.Core.Path.{_≡_}
 use mathlib.Core.Bool.{Bool, true, cond}
 use mathlib.Core.List.{List, [], _∷_, _++_}
 use lib.ListN.{length}
-use Rattle.events.specs.declared.Event.{Event}
-use Rattle.tables.specs.declared.Task.{Task}
-use Rattle.tables.specs.declared.Table.{Table}
-use Rattle.records.specs.declared.Record.{Record}
-use Rattle.records.specs.Window.{windowOf}
-use Rattle.states.specs.declared.State.{State}
-use Rattle.demands.specs.Above.{taskAt}
-use Rattle.all_bounds.specs.Asked.{boundCell}
-use Rattle.windows.specs.Outcomes.{misses}
-use Rattle.histories.specs.History.{closes, completes}
+use Rattle.event_reading.specs.declared.Event.{Event}
+use Rattle.table_rules.specs.declared.Task.{Task}
+use Rattle.table_rules.specs.declared.Table.{Table}
+use Rattle.task_records.specs.declared.Record.{Record}
+use Rattle.task_records.specs.Window.{windowOf}
+use Rattle.state_rules.specs.declared.State.{State}
+use Rattle.bound_demand.specs.Above.{taskAt}
+use Rattle.bound_all.specs.Asked.{boundCell}
+use Rattle.run_windows.specs.Outcomes.{misses}
+use Rattle.run_histories.specs.History.{closes, completes}
 use Rattle.guarantee_of_logs.specs.Places.{eventAt, recordAfter}
 
 -- the job of task i that is open before event n is no longer open after it

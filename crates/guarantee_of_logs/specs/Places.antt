@@ -3,13 +3,13 @@ use Prim.Native.Nat.{ℕ}
 use mathlib.Core.Bool.{Bool}
 use mathlib.Core.List.{List}
 use lib.ListN.{getD, take}
-use Rattle.events.specs.declared.Event.{Event}
-use Rattle.records.specs.declared.Record.{Record}
-use Rattle.states.specs.declared.State.{State}
-use Rattle.states.specs.State.{recordAt}
-use Rattle.effects.specs.Apply.{applied}
-use Rattle.effects.specs.Log.{stateAfter}
-use Rattle.histories.specs.History.{accepts}
+use Rattle.event_reading.specs.declared.Event.{Event}
+use Rattle.task_records.specs.declared.Record.{Record}
+use Rattle.state_rules.specs.declared.State.{State}
+use Rattle.state_rules.specs.State.{recordAt}
+use Rattle.apply_events.specs.Apply.{applied}
+use Rattle.apply_events.specs.Log.{stateAfter}
+use Rattle.run_histories.specs.History.{accepts}
 
 -- event n; past the last one nothing asks for it, and it is all zeros
 abbrev pub eventAt : List Event → ℕ → Event

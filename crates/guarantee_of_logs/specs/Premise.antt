@@ -1,11 +1,11 @@
--- Document 01, "Chosen time": demand 3's premise, event by event in the order of the log. `premise-either-way` shows that it is the one of `guarantee`.
+-- Rules, "Chosen time": demand 3's premise, event by event in the order of the log. `premise-either-way` shows that it is the one of `guarantee`.
 use Prim.Native.Nat.{ℕ, _≤_, _<_}
 use mathlib.Core.Path.{_≡_}
 use mathlib.Core.Bool.{true}
 use mathlib.Core.List.{List}
 use lib.ListN.{length}
-use Rattle.events.specs.declared.Event.{Event}
-use Rattle.states.specs.declared.State.{State}
+use Rattle.event_reading.specs.declared.Event.{Event}
+use Rattle.state_rules.specs.declared.State.{State}
 use Rattle.guarantee.specs.Premise.{Waits}
 use Rattle.guarantee_of_logs.specs.Places.{eventAt, recordAfter, acceptedAt}
 use Rattle.guarantee_of_logs.specs.ChosenTime.{openAfter}

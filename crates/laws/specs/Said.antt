@@ -1,4 +1,4 @@
--- What an answer says in document 01's terms.
+-- What an answer says in the rules' terms.
 use Prim.Native.Nat.{ℕ}
 use mathlib.Core.List.{List}
 

@@ -3,9 +3,9 @@
 use libc::STDERR_FILENO;
 use libc::STDIN_FILENO;
 use libc::STDOUT_FILENO;
-use listings::Listing;
-use listings::ROOM;
-use listings::list;
+use listing_of_input::Listing;
+use listing_of_input::ROOM;
+use listing_of_input::list;
 ghost use lib.ListN.{length};
 ghost use Rattle.listing.specs.Taken.{Within};
 

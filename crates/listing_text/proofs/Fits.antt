@@ -8,47 +8,47 @@ use borrow.Author.Tests.{ltb-false}
 use lib.Dec.{ltb}
 use lib.ListN.{length, drop, length-append, length-drop}
 use Rattle.laws.proofs.Tests.{by-test}
-use Rattle.texts.proofs.Decimals.{decimal-short}
-use Rattle.tables.specs.declared.Answer.{Answer}
-use Rattle.tables.specs.declared.Answer.the-variants.{Accepted, Refused}
-use Rattle.tables.specs.declared.Table.{Table}
-use Rattle.tables.specs.declared.Task.{Task}
-use Rattle.tables.specs.Judging.{judged}
-use Rattle.tables.specs.Rules.{Misses}
-use Rattle.thresholds.specs.Thresholds.{wOf, hOf}
-use Rattle.tables.proofs.Exactly.{judged-accepted}
-use Rattle.tables.proofs.Ruling.{fault-none}
-use Rattle.table_bytes.specs.Reading.{readTable}
-use Rattle.demands.specs.Above.{taskAt}
-use Rattle.bounds.specs.declared.Bound.{Bound}
-use Rattle.bounds.specs.declared.Bound.the-variants as Bound
-use Rattle.bounds.specs.Asked.{oneAnswer}
-use Rattle.events.specs.declared.Event.{Event}
-use Rattle.events.specs.declared.Reading.{Reading}
-use Rattle.events.specs.declared.Reading.the-variants as R
-use Rattle.events.specs.Record.{readRecord}
-use Rattle.events.specs.Answer.{readSaid}
-use Rattle.logs.specs.Log.{readable, restOf, eventsIn, eventsOf}
-use Rattle.logs.specs.Ending.{endedBy}
-use Rattle.logs.proofs.Records.{readable-fits}
-use Rattle.logs.proofs.Rests.{rest-most}
-use Rattle.records.specs.declared.Record.{Record}
-use Rattle.records.specs.Window.{windowOf}
-use Rattle.balances.specs.Balance.{openOf}
-use Rattle.soundness.specs.Sound.{Sound}
-use Rattle.states.specs.declared.State.{State}
-use Rattle.states.specs.Sound.{limit, StateSound}
-use Rattle.states.specs.State.{recordAt, freshState}
-use Rattle.effects.specs.declared.Answer.{Answer as Said}
-use Rattle.effects.specs.declared.Answer.the-variants as Said
-use Rattle.effects.specs.Apply.{applied}
-use Rattle.effects.proofs.Frame.{count-stays}
-use Rattle.effects.proofs.Kept.{applied-sound}
+use Rattle.text_writing.proofs.Decimals.{decimal-short}
+use Rattle.table_rules.specs.declared.Answer.{Answer}
+use Rattle.table_rules.specs.declared.Answer.the-variants.{Accepted, Refused}
+use Rattle.table_rules.specs.declared.Table.{Table}
+use Rattle.table_rules.specs.declared.Task.{Task}
+use Rattle.table_rules.specs.Judging.{judged}
+use Rattle.table_rules.specs.Rules.{Misses}
+use Rattle.task_thresholds.specs.Thresholds.{wOf, hOf}
+use Rattle.table_rules.proofs.Exactly.{judged-accepted}
+use Rattle.table_rules.proofs.Ruling.{fault-none}
+use Rattle.table_reading.specs.Table.{readTable}
+use Rattle.bound_demand.specs.Above.{taskAt}
+use Rattle.bound_one.specs.declared.Bound.{Bound}
+use Rattle.bound_one.specs.declared.Bound.the-variants as Bound
+use Rattle.bound_one.specs.Asked.{oneAnswer}
+use Rattle.event_reading.specs.declared.Event.{Event}
+use Rattle.event_reading.specs.declared.Reading.{Reading}
+use Rattle.event_reading.specs.declared.Reading.the-variants as R
+use Rattle.event_reading.specs.Record.{readRecord}
+use Rattle.event_reading.specs.Answer.{readSaid}
+use Rattle.event_logs.specs.Log.{readable, restOf, eventsIn, eventsOf}
+use Rattle.event_logs.specs.Ending.{endedBy}
+use Rattle.event_logs.proofs.Records.{readable-fits}
+use Rattle.event_logs.proofs.Rests.{rest-most}
+use Rattle.task_records.specs.declared.Record.{Record}
+use Rattle.task_records.specs.Window.{windowOf}
+use Rattle.task_soundness.specs.Counts.{openOf}
+use Rattle.task_soundness.specs.Sound.{Sound}
+use Rattle.state_rules.specs.declared.State.{State}
+use Rattle.state_rules.specs.Sound.{limit, StateSound}
+use Rattle.state_rules.specs.State.{recordAt, freshState}
+use Rattle.apply_events.specs.declared.Answer.{Answer as Said}
+use Rattle.apply_events.specs.declared.Answer.the-variants as Said
+use Rattle.apply_events.specs.Apply.{applied}
+use Rattle.apply_events.proofs.Frame.{count-stays}
+use Rattle.apply_events.proofs.Kept.{applied-sound}
 use Rattle.listing_text.specs.TaskLines.{boundText, taskLine, lastLine}
 use Rattle.listing_text.specs.TableLines.{taskLines, lastLines}
 use Rattle.listing_text.specs.EventLines.{answerText, eventLine}
 use Rattle.listing_text.specs.RefusalLines.{refusedLine}
-use Rattle.effects.specs.Log.{stateAfter}
+use Rattle.apply_events.specs.Log.{stateAfter}
 use Rattle.listing_text.specs.LogLines.{eventLines, stopBy, stopText}
 use Rattle.listing_text.specs.Listing.{tableListing, listedBy, listed, tableThere, tableBytes, eventBytes, listingOf}
 use Rattle.listing_text.proofs.Input.{read-good}

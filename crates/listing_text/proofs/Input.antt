@@ -10,15 +10,15 @@ use lib.ListN.{length, take, drop, replicate}
 use Rattle.laws.proofs.Parts.{tail-is}
 use Rattle.laws.proofs.Stores.{filled-below}
 use Rattle.laws.proofs.Tests.{each-holds}
-use Rattle.tables.specs.declared.Answer.{Answer}
-use Rattle.tables.specs.declared.Answer.the-variants.{Accepted, Refused}
-use Rattle.tables.specs.declared.Table.{Table}
-use Rattle.tables.specs.Rules.{noTask}
-use Rattle.tables.specs.Judging.{judged}
-use Rattle.tables.proofs.Exactly.{judged-accepted}
-use Rattle.table_bytes.specs.Reading.{taskFrom, recordAt, tableOf, beside, readAnswer, readTable}
-use Rattle.table_bytes.proofs.Exactly.{length-at, read-accepted}
-use Rattle.task_bytes.proofs.Exactly.{record-task}
+use Rattle.table_rules.specs.declared.Answer.{Answer}
+use Rattle.table_rules.specs.declared.Answer.the-variants.{Accepted, Refused}
+use Rattle.table_rules.specs.declared.Table.{Table}
+use Rattle.table_rules.specs.Rules.{noTask}
+use Rattle.table_rules.specs.Judging.{judged}
+use Rattle.table_rules.proofs.Exactly.{judged-accepted}
+use Rattle.table_reading.specs.Table.{taskFrom, recordAt, tableOf, beside, readAnswer, readTable}
+use Rattle.table_reading.proofs.Exactly.{length-at, read-accepted}
+use Rattle.table_reading.proofs.Records.{record-task}
 use Rattle.listing_text.specs.Listing.{countByte, tableThere, eventsFrom, tableBytes, eventBytes}
 
 pub beside-answer : (a : Answer) (t : Table) → beside a t .answer ≡ a

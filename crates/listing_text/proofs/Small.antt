@@ -12,50 +12,50 @@ use lib.ListN.{length, replicate}
 use Rattle.laws.proofs.Numbers.{ceiling-small}
 use Rattle.laws.proofs.Stores.{filled-below}
 use Rattle.laws.proofs.Tests.{by-test}
-use Rattle.tables.specs.declared.Answer.the-variants.{Accepted, Refused}
-use Rattle.tables.specs.declared.Table.{Table}
-use Rattle.tables.specs.declared.Task.{Task}
-use Rattle.tables.specs.Judging.{firstFault, judged}
-use Rattle.tables.specs.Rules.{Misses, taskFault}
-use Rattle.thresholds.specs.Thresholds.{wOf, hOf, topOf}
-use Rattle.tables.proofs.Exactly.{judged-accepted}
-use Rattle.tables.proofs.Faults.{found-then}
-use Rattle.thresholds.proofs.Paper.{w-small, h-some}
-use Rattle.tables.proofs.Ruling.{fault-none}
-use Rattle.table_bytes.specs.Reading.{recordAt, recordFaultAt, bytesHold, tableOf, readAnswer, readTable}
-use Rattle.table_bytes.proofs.Exactly.{whole-tells, length-at}
-use Rattle.task_bytes.proofs.Exactly.{record-among}
-use Rattle.response.specs.declared.Found.{Found}
-use Rattle.response.specs.declared.Found.the-variants as Found
-use Rattle.demands.specs.Above.{taskAt}
-use Rattle.response.specs.Bound.{boundOf}
-use Rattle.response.proofs.Meets.{bound-is}
-use Rattle.bounds.specs.declared.Bound.{Bound}
-use Rattle.bounds.specs.declared.Bound.the-variants as Bound
-use Rattle.bounds.specs.Asked.{orThirteen, oneAnswer}
-use Rattle.events.specs.declared.Event.{Event}
-use Rattle.events.specs.Event.{zeroes, faultOf}
-use Rattle.levels.proofs.Needs.{level-told}
-use Rattle.records.specs.declared.Record.{Record}
-use Rattle.jobs.specs.Opening.{fresh, expired, noRecord}
-use Rattle.records.specs.Window.{windowOf}
-use Rattle.balances.specs.Balance.{openOf}
-use Rattle.soundness.specs.Sound.{Sound}
-use Rattle.soundness.proofs.Kept.{fresh-sound}
-use Rattle.choices.specs.declared.Best.{Best}
-use Rattle.states.specs.declared.State.{State}
-use Rattle.choices.specs.Choice.{bestTo}
-use Rattle.states.specs.Sound.{limit, StateSound, stateHolds}
-use Rattle.states.specs.State.{freshState}
-use Rattle.choices.specs.Least as Least
-use Rattle.choices.proofs.Least.{best-is}
-use Rattle.effects.specs.declared.Answer.the-variants as Said
-use Rattle.states.specs.State.{recordAt as recordOf}
-use Rattle.effects.specs.declared.Answer.{Answer as Said}
-use Rattle.effects.specs.declared.Applied.{Applied}
-use Rattle.effects.specs.Apply.{answerOf, ticked, releasedAt, completedAt, byKind, timed, acted, applied}
-use Rattle.task_steps.specs.Steps.{tooSoon, isOpen}
-use Rattle.effects.proofs.Kept.{applied-sound}
+use Rattle.table_rules.specs.declared.Answer.the-variants.{Accepted, Refused}
+use Rattle.table_rules.specs.declared.Table.{Table}
+use Rattle.table_rules.specs.declared.Task.{Task}
+use Rattle.table_rules.specs.Judging.{firstFault, judged}
+use Rattle.table_rules.specs.Rules.{Misses, taskFault}
+use Rattle.task_thresholds.specs.Thresholds.{wOf, hOf, topOf}
+use Rattle.table_rules.proofs.Exactly.{judged-accepted}
+use Rattle.table_rules.proofs.Faults.{found-then}
+use Rattle.task_thresholds.proofs.Paper.{w-small, h-some}
+use Rattle.table_rules.proofs.Ruling.{fault-none}
+use Rattle.table_reading.specs.Table.{recordAt, recordFaultAt, bytesHold, tableOf, readAnswer, readTable}
+use Rattle.table_reading.proofs.Exactly.{whole-tells, length-at}
+use Rattle.table_reading.proofs.Records.{record-among}
+use Rattle.bound_search.specs.declared.Found.{Found}
+use Rattle.bound_search.specs.declared.Found.the-variants as Found
+use Rattle.bound_demand.specs.Above.{taskAt}
+use Rattle.bound_search.specs.Bound.{boundOf}
+use Rattle.bound_search.proofs.Meets.{bound-is}
+use Rattle.bound_one.specs.declared.Bound.{Bound}
+use Rattle.bound_one.specs.declared.Bound.the-variants as Bound
+use Rattle.bound_one.specs.Asked.{orThirteen, oneAnswer}
+use Rattle.event_reading.specs.declared.Event.{Event}
+use Rattle.event_reading.specs.Event.{zeroes, faultOf}
+use Rattle.task_levels.proofs.Needs.{level-told}
+use Rattle.task_records.specs.declared.Record.{Record}
+use Rattle.task_steps.specs.Opening.{fresh, expired, noRecord}
+use Rattle.task_records.specs.Window.{windowOf}
+use Rattle.task_soundness.specs.Counts.{openOf}
+use Rattle.task_soundness.specs.Sound.{Sound}
+use Rattle.task_soundness.proofs.Kept.{fresh-sound}
+use Rattle.state_choice.specs.declared.Best.{Best}
+use Rattle.state_rules.specs.declared.State.{State}
+use Rattle.state_choice.specs.Choice.{bestTo}
+use Rattle.state_rules.specs.Sound.{limit, StateSound, stateHolds}
+use Rattle.state_rules.specs.State.{freshState}
+use Rattle.state_choice.specs.Least as Least
+use Rattle.state_choice.proofs.Least.{best-is}
+use Rattle.apply_events.specs.declared.Answer.the-variants as Said
+use Rattle.state_rules.specs.State.{recordAt as recordOf}
+use Rattle.apply_events.specs.declared.Answer.{Answer as Said}
+use Rattle.apply_events.specs.declared.Applied.{Applied}
+use Rattle.apply_events.specs.Apply.{answerOf, ticked, releasedAt, completedAt, byKind, timed, acted, applied}
+use Rattle.task_steps.specs.Own.{tooSoon, isOpen}
+use Rattle.apply_events.proofs.Kept.{applied-sound}
 use Rattle.listing_text.proofs.Input.{beside-answer}
 
 -- ---- the table's refusal

@@ -5,25 +5,25 @@ use mathlib.Core.Bool.{true, false}
 use mathlib.Core.List.{List, []}
 use borrow.Author.Tests.{lt-ltb, le-ltb}
 use lib.ListN.{length, drop}
-use Rattle.tables.specs.declared.Answer.the-variants.{Accepted, Refused}
-use Rattle.tables.specs.declared.Table.{Table}
-use Rattle.tables.specs.Judging.{judged}
-use Rattle.table_bytes.specs.Reading.{readTable}
-use Rattle.response.specs.declared.Found.{Found}
-use Rattle.response.specs.declared.Found.the-variants as Found
-use Rattle.response.specs.Bound.{IsBound, NoBound, boundOf}
-use Rattle.response.proofs.Meets.{bound-is, bound-none}
-use Rattle.bounds.specs.Asked.{orThirteen, oneAnswer}
-use Rattle.events.specs.declared.Event.{Event}
-use Rattle.events.specs.declared.Reading.the-variants as R
-use Rattle.events.specs.Record.{readRecord}
-use Rattle.logs.specs.Log.{readable}
-use Rattle.logs.proofs.Rests.{rest-end}
-use Rattle.states.specs.declared.State.{State}
-use Rattle.effects.specs.Log.{standing, ranOver, stateAfter}
-use Rattle.effects.proofs.Runs.{ran-by}
-use Rattle.wording.specs.Fields.{fieldOf}
-use Rattle.wording.specs.Words.{boundWord, noBoundWord}
+use Rattle.table_rules.specs.declared.Answer.the-variants.{Accepted, Refused}
+use Rattle.table_rules.specs.declared.Table.{Table}
+use Rattle.table_rules.specs.Judging.{judged}
+use Rattle.table_reading.specs.Table.{readTable}
+use Rattle.bound_search.specs.declared.Found.{Found}
+use Rattle.bound_search.specs.declared.Found.the-variants as Found
+use Rattle.bound_search.specs.Bound.{IsBound, NoBound, boundOf}
+use Rattle.bound_search.proofs.Meets.{bound-is, bound-none}
+use Rattle.bound_one.specs.Asked.{orThirteen, oneAnswer}
+use Rattle.event_reading.specs.declared.Event.{Event}
+use Rattle.event_reading.specs.declared.Reading.the-variants as R
+use Rattle.event_reading.specs.Record.{readRecord}
+use Rattle.event_logs.specs.Log.{readable}
+use Rattle.event_logs.proofs.Rests.{rest-end}
+use Rattle.state_rules.specs.declared.State.{State}
+use Rattle.apply_events.specs.Log.{standing, ranOver, stateAfter}
+use Rattle.apply_events.proofs.Runs.{ran-by}
+use Rattle.listing_text.specs.Fields.{fieldOf}
+use Rattle.listing_text.specs.Words.{boundWord, noBoundWord}
 use Rattle.listing_text.specs.TaskLines.{boundText}
 use Rattle.listing_text.specs.RefusalLines.{tooLong, refusedLine, stopLine}
 use Rattle.listing_text.specs.LogLines.{stopText}

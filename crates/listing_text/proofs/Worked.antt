@@ -1,30 +1,30 @@
--- Document 01's own listing, byte by byte and as one claim, by computation: what its input gives is the text that it prints.
+-- The rules' own listing, byte by byte and as one claim, by computation: what its input gives is the text that it prints.
 use Prim.Native.Nat.{ℕ}
 use mathlib.Core.Path.{_≡_, refl}
 use mathlib.Core.List.{List, [], _∷_, _++_}
 use lib.Count.{ones, onesIn}
 use Rattle.laws.specs.Stores.{filled}
 use Rattle.laws.specs.Sums.{total}
-use Rattle.words.specs.Words.{number}
-use Rattle.texts.specs.Decimal.{digitsIn, decimal}
-use Rattle.tables.specs.Rules.{taskFault}
-use Rattle.tables.specs.Judging.{firstFault, judged}
-use Rattle.task_bytes.specs.Reading.{recordFault}
-use Rattle.table_bytes.specs.Reading.{readAnswer, readTable}
-use Rattle.response.specs.Fits.{firstFit}
-use Rattle.demands.specs.Demand.{demand}
-use Rattle.bounds.specs.Asked.{oneAnswer}
-use Rattle.events.specs.Event.{faultOf, zeroes}
-use Rattle.events.specs.Record.{marks, readRecord}
-use Rattle.logs.specs.Log.{readableIn, readable, eventsIn}
-use Rattle.records.specs.Closing.{closed}
-use Rattle.jobs.specs.Opening.{expired, opened}
-use Rattle.soundness.specs.Sound.{soundHolds}
-use Rattle.states.specs.Sound.{eachHolds, stateHolds}
-use Rattle.choices.specs.Choice.{bestTo}
-use Rattle.effects.specs.Apply.{ticked, releasedAt, completedAt, byKind, timed, acted, applied}
+use Rattle.number_reading.specs.Words.{number}
+use Rattle.text_writing.specs.Decimal.{digitsIn, decimal}
+use Rattle.table_rules.specs.Rules.{taskFault}
+use Rattle.table_rules.specs.Judging.{firstFault, judged}
+use Rattle.table_reading.specs.Row.{recordFault}
+use Rattle.table_reading.specs.Table.{readAnswer, readTable}
+use Rattle.bound_search.specs.Fits.{firstFit}
+use Rattle.bound_demand.specs.Demand.{demand}
+use Rattle.bound_one.specs.Asked.{oneAnswer}
+use Rattle.event_reading.specs.Event.{faultOf, zeroes}
+use Rattle.event_reading.specs.Record.{marks, readRecord}
+use Rattle.event_logs.specs.Log.{readableIn, readable, eventsIn}
+use Rattle.task_records.specs.Closing.{closed}
+use Rattle.task_steps.specs.Opening.{expired, opened}
+use Rattle.task_soundness.specs.Sound.{soundHolds}
+use Rattle.state_rules.specs.Sound.{eachHolds, stateHolds}
+use Rattle.state_choice.specs.Choice.{bestTo}
+use Rattle.apply_events.specs.Apply.{ticked, releasedAt, completedAt, byKind, timed, acted, applied}
 use Rattle.listing_text.specs.TableLines.{taskLines, lastLines}
-use Rattle.effects.specs.Log.{stateAfter}
+use Rattle.apply_events.specs.Log.{stateAfter}
 use Rattle.listing_text.specs.LogLines.{eventLines, stopText}
 use Rattle.listing_text.specs.Listing.{tableListing, listed, listingOf}
 

@@ -1,10 +1,10 @@
--- Document 01, "The listing": what the line of an event says.
+-- Rules, "The listing": what the line of an event says.
 use Prim.Native.Nat.{ℕ}
 use mathlib.Core.List.{List, _++_}
-use Rattle.effects.specs.declared.Answer.{Answer}
-use Rattle.effects.specs.declared.Answer.the-variants.{Run, Idle, Refused}
-use Rattle.wording.specs.Fields.{fieldOf}
-use Rattle.wording.specs.Words.{eventWord, runWord, classWord, idleWord, refusedWord, lineEnd}
+use Rattle.apply_events.specs.declared.Answer.{Answer}
+use Rattle.apply_events.specs.declared.Answer.the-variants.{Run, Idle, Refused}
+use Rattle.listing_text.specs.Fields.{fieldOf}
+use Rattle.listing_text.specs.Words.{eventWord, runWord, classWord, idleWord, refusedWord, lineEnd}
 
 -- `run` with the chosen position and that job's class, or `idle`, or the refusal
 abbrev pub answerText : Answer → List ℕ

@@ -1,19 +1,19 @@
--- Document 01, "The listing": one byte n, then n table records, then events; and what is printed of them, in order.
+-- Rules, "The listing": one byte n, then n table records, then events; and what is printed of them, in order.
 use Prim.Native.Nat.{ℕ, _+_, _*_}
 use mathlib.Core.Bool.{Bool, cond}
 use mathlib.Core.List.{List, [], _∷_, _++_}
 use lib.Dec.{leb, ltb}
 use lib.ListN.{length, getD, take, drop}
 use Rattle.laws.specs.Tests.{allOf}
-use Rattle.tables.specs.declared.Table.{Table}
-use Rattle.tables.specs.declared.Answer.{Answer}
-use Rattle.tables.specs.declared.Answer.the-variants.{Accepted, Refused}
-use Rattle.table_bytes.specs.declared.TableRead.{TableRead}
-use Rattle.table_bytes.specs.Reading.{readTable}
-use Rattle.logs.specs.Log.{eventsOf}
-use Rattle.states.specs.State.{freshState}
+use Rattle.table_rules.specs.declared.Table.{Table}
+use Rattle.table_rules.specs.declared.Answer.{Answer}
+use Rattle.table_rules.specs.declared.Answer.the-variants.{Accepted, Refused}
+use Rattle.table_reading.specs.declared.TableRead.{TableRead}
+use Rattle.table_reading.specs.Table.{readTable}
+use Rattle.event_logs.specs.Log.{eventsOf}
+use Rattle.state_rules.specs.State.{freshState}
 use Rattle.listing_text.specs.TableLines.{taskLines, lastLines}
-use Rattle.effects.specs.Log.{stateAfter}
+use Rattle.apply_events.specs.Log.{stateAfter}
 use Rattle.listing_text.specs.LogLines.{eventLines, stopText}
 use Rattle.listing_text.specs.RefusalLines.{tooLong, refusedLine}
 

@@ -1,12 +1,12 @@
--- Document 01, "The listing": one line per event, and where the reading stopped.
+-- Rules, "The listing": one line per event, and where the reading stopped.
 use Prim.Native.Nat.{ℕ, _+_}
 use mathlib.Core.List.{List, [], _∷_, _++_}
-use Rattle.events.specs.declared.Event.{Event}
-use Rattle.logs.specs.declared.Ending.{Ending}
-use Rattle.logs.specs.declared.Ending.the-variants as E
-use Rattle.logs.specs.Ending.{endingOf}
-use Rattle.states.specs.declared.State.{State}
-use Rattle.effects.specs.Apply.{applied}
+use Rattle.event_reading.specs.declared.Event.{Event}
+use Rattle.event_logs.specs.declared.Ending.{Ending}
+use Rattle.event_logs.specs.declared.Ending.the-variants as E
+use Rattle.event_logs.specs.Ending.{endingOf}
+use Rattle.state_rules.specs.declared.State.{State}
+use Rattle.apply_events.specs.Apply.{applied}
 use Rattle.listing_text.specs.EventLines.{eventLine}
 use Rattle.listing_text.specs.RefusalLines.{stopLine}
 

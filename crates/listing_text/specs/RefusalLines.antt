@@ -1,8 +1,8 @@
--- Document 01, "The listing": the lines that say what was not listed.
+-- Rules, "The listing": the lines that say what was not listed.
 use Prim.Native.Nat.{ℕ}
 use mathlib.Core.List.{List, _++_}
-use Rattle.wording.specs.Fields.{fieldOf}
-use Rattle.wording.specs.Words.{inputTooLongWord, tableRefusedWord, stopWord, atWord, lineEnd}
+use Rattle.listing_text.specs.Fields.{fieldOf}
+use Rattle.listing_text.specs.Words.{inputTooLongWord, tableRefusedWord, stopWord, atWord, lineEnd}
 
 -- `input too long`
 abbrev pub tooLong : List ℕ

@@ -1,12 +1,12 @@
--- Document 01, "The listing": one line per task, before the events and after them.
+-- Rules, "The listing": one line per task, before the events and after them.
 use Prim.Native.Nat.{ℕ, zero, suc}
 use mathlib.Core.List.{List, [], _++_}
 use lib.ListN.{getD}
-use Rattle.tables.specs.declared.Table.{Table}
-use Rattle.tables.specs.Rules.{noTask}
-use Rattle.bounds.specs.Asked.{oneAnswer}
-use Rattle.states.specs.declared.State.{State}
-use Rattle.states.specs.State.{recordAt}
+use Rattle.table_rules.specs.declared.Table.{Table}
+use Rattle.table_rules.specs.Rules.{noTask}
+use Rattle.bound_one.specs.Asked.{oneAnswer}
+use Rattle.state_rules.specs.declared.State.{State}
+use Rattle.state_rules.specs.State.{recordAt}
 use Rattle.listing_text.specs.TaskLines.{taskLine, lastLine}
 
 -- one line per task: the first n of a table

@@ -1,15 +1,15 @@
--- Document 01, "The listing": what the lines of a task say. Every line ends in a newline.
+-- Rules, "The listing": what the lines of a task say. Every line ends in a newline.
 use Prim.Native.Nat.{ℕ}
 use mathlib.Core.List.{List, _++_}
-use Rattle.tables.specs.declared.Task.{Task}
-use Rattle.thresholds.specs.Thresholds.{wOf, hOf}
-use Rattle.bounds.specs.declared.Bound.{Bound}
-use Rattle.bounds.specs.declared.Bound.the-variants as Bound
-use Rattle.records.specs.declared.Record.{Record}
-use Rattle.records.specs.Window.{windowOf}
-use Rattle.balances.specs.Balance.{openOf}
-use Rattle.wording.specs.Fields.{fieldOf}
-use Rattle.wording.specs.Words.{taskWord, wWord, hWord, boundWord, noBoundWord, metWord, missedWord, openWord, windowWord, brokenWord, lineEnd}
+use Rattle.table_rules.specs.declared.Task.{Task}
+use Rattle.task_thresholds.specs.Thresholds.{wOf, hOf}
+use Rattle.bound_one.specs.declared.Bound.{Bound}
+use Rattle.bound_one.specs.declared.Bound.the-variants as Bound
+use Rattle.task_records.specs.declared.Record.{Record}
+use Rattle.task_records.specs.Window.{windowOf}
+use Rattle.task_soundness.specs.Counts.{openOf}
+use Rattle.listing_text.specs.Fields.{fieldOf}
+use Rattle.listing_text.specs.Words.{taskWord, wWord, hWord, boundWord, noBoundWord, metWord, missedWord, openWord, windowWord, brokenWord, lineEnd}
 
 -- bound or `-`
 abbrev pub boundText : Bound → List ℕ

@@ -1,8 +1,8 @@
 // The bench rig: one function for C callers, over table bytes and log bytes. include/brumerola.h declares it.
-use log_codes::log_code;
-use log_codes::refusal;
+use rig_log_code::log_code;
+use rig_log_code::refusal;
 ghost use mathlib.Core.Path.{_≡_};
-ghost use Rattle.codes.specs.Code.{codeOf};
+ghost use Rattle.rig_codes.specs.Code.{codeOf};
 
 #[no_mangle]
 pub extern "C" fn brumerola_choice(table: &[u8], log: &[u8]) -> u32
@@ -11,14 +11,14 @@ pub extern "C" fn brumerola_choice(table: &[u8], log: &[u8]) -> u32
     if 65536 < log.len() {
         return 64;
     }
-    let read = table_bytes::reading::read(table);
+    let read = table_reading::table::read(table);
     let answer = read.answer;
-    if let tables::Answer::Refused {
+    if let table_rules::Answer::Refused {
         number: number,
         position: _,
     } = answer {
         return refusal(number);
     }
-    let begun = states::fresh::start(read.table);
+    let begun = state_rules::fresh::start(read.table);
     log_code(begun.state, log)
 }

@@ -5,9 +5,9 @@ use mathlib.Core.List.{List, _++_}
 use native.Mathlib.Omega.{arith}
 use lib.ListN.{length, getD, drop, length-append}
 use lib.Seq.{paste, take-at, drop-append-add, drop-drop}
-use Rattle.word_writing.specs.Bytes.{bytes}
-use Rattle.tables.specs.declared.Task.{Task}
-use Rattle.tables.specs.Rules.{noTask}
+use Rattle.number_writing.specs.Bytes.{bytes}
+use Rattle.table_rules.specs.declared.Task.{Task}
+use Rattle.table_rules.specs.Rules.{noTask}
 use Rattle.table_writing.specs.Writing.{recordOf, recordsOf}
 
 pub length-record : (t : Task) → length (recordOf t) ≡ 16

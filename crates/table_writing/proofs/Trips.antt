@@ -13,24 +13,24 @@ use Rattle.laws.specs.Bytes.{AreBytes}
 use Rattle.laws.proofs.Bytes.{drop-bytes, take-bytes}
 use Rattle.laws.proofs.Parts.{two-at}
 use Rattle.laws.proofs.Stores.{length-filled, filled-below, filled-past, filled-same}
-use Rattle.words.specs.Words.{number}
-use Rattle.word_writing.specs.Bytes.{bytes}
-use Rattle.word_writing.proofs.Trips.{number-of-bytes, bytes-of-number}
-use Rattle.tables.specs.declared.Answer.the-variants.{Accepted}
-use Rattle.tables.specs.declared.Task.{Task}
-use Rattle.tables.specs.declared.Table.{Table}
-use Rattle.tables.specs.Rules.{Times, taskFault, noTask}
-use Rattle.tables.specs.Judging.{judged}
-use Rattle.task_bytes.specs.Reading.{Marked, taskOf, recordFault}
-use Rattle.table_bytes.specs.Reading.{recordAt, taskFrom, readAnswer, readTable}
-use Rattle.tables.specs.Tidy.{Tidy}
+use Rattle.number_reading.specs.Words.{number}
+use Rattle.number_writing.specs.Bytes.{bytes}
+use Rattle.number_writing.proofs.Trips.{number-of-bytes, bytes-of-number}
+use Rattle.table_rules.specs.declared.Answer.the-variants.{Accepted}
+use Rattle.table_rules.specs.declared.Task.{Task}
+use Rattle.table_rules.specs.declared.Table.{Table}
+use Rattle.table_rules.specs.Rules.{Times, taskFault, noTask}
+use Rattle.table_rules.specs.Judging.{judged}
+use Rattle.table_reading.specs.Row.{Marked, taskOf, recordFault}
+use Rattle.table_reading.specs.Table.{recordAt, taskFrom, readAnswer, readTable}
+use Rattle.table_rules.specs.Tidy.{Tidy}
 use Rattle.table_writing.specs.Writing.{recordOf, recordsOf, writeAnswer, wroteTable, tidied}
-use Rattle.tables.proofs.Exactly.{judged-accepted}
-use Rattle.table_bytes.proofs.Exactly.{read-accepted, length-at}
+use Rattle.table_rules.proofs.Exactly.{judged-accepted}
+use Rattle.table_reading.proofs.Exactly.{read-accepted, length-at}
 use Rattle.table_writing.proofs.Records.{length-record, length-records}
-use Rattle.tables.proofs.Ruling.{fault-none}
-use Rattle.task_bytes.proofs.Rows.{marked}
-use Rattle.table_bytes.proofs.Given.{count, given, whole, task-there, fault-there, given-good, given-is}
+use Rattle.table_rules.proofs.Ruling.{fault-none}
+use Rattle.table_reading.proofs.Rows.{marked}
+use Rattle.table_reading.proofs.Given.{count, given, whole, task-there, fault-there, given-good, given-is}
 use Rattle.table_writing.proofs.Written.{write-accepted, write-leaves}
 
 -- ---- one record, written and read

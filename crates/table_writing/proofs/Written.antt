@@ -8,13 +8,13 @@ use native.Mathlib.Omega.{arith}
 use borrow.Author.Tests.{le-leb, lt-leb, leb-true, leb-false}
 use lib.Dec.{leb}
 use lib.ListN.{length, getD, drop}
-use Rattle.tables.specs.declared.Answer.{Answer}
-use Rattle.tables.specs.declared.Answer.the-variants.{Accepted, Refused}
-use Rattle.tables.specs.declared.Table.{Table}
-use Rattle.tables.specs.Rules.{noTask}
-use Rattle.tables.specs.Judging.{judged}
-use Rattle.tables.proofs.Exactly.{judged-at}
-use Rattle.tables.proofs.Ruling.{fault-among}
+use Rattle.table_rules.specs.declared.Answer.{Answer}
+use Rattle.table_rules.specs.declared.Answer.the-variants.{Accepted, Refused}
+use Rattle.table_rules.specs.declared.Table.{Table}
+use Rattle.table_rules.specs.Rules.{noTask}
+use Rattle.table_rules.specs.Judging.{judged}
+use Rattle.table_rules.proofs.Exactly.{judged-at}
+use Rattle.table_rules.proofs.Ruling.{fault-among}
 use Rattle.table_writing.specs.Writing.{recordsOf, ifRoom, writeAnswer, wroteTable}
 
 -- the value's own refusal comes first

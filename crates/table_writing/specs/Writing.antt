@@ -1,17 +1,17 @@
--- Document 01, "Writing": the value's own refusal, then 14; bytes past what was written stay, and a refused write leaves all.
+-- Rules, "Order of refusals", for writing a table: the value's own refusal, then 14; bytes past what was written stay, and a refused write leaves all.
 use Prim.Native.Nat.{ℕ, zero, suc, _*_}
 use mathlib.Core.Bool.{cond}
 use mathlib.Core.List.{List, [], _∷_, _++_}
 use lib.Dec.{leb}
 use lib.ListN.{length, getD, drop, replicate}
 use Rattle.laws.specs.Stores.{filled}
-use Rattle.word_writing.specs.Bytes.{bytes}
-use Rattle.tables.specs.declared.Task.{Task}
-use Rattle.tables.specs.declared.Table.{Table}
-use Rattle.tables.specs.declared.Answer.{Answer}
-use Rattle.tables.specs.declared.Answer.the-variants.{Accepted, Refused}
-use Rattle.tables.specs.Rules.{noTask}
-use Rattle.tables.specs.Judging.{judged}
+use Rattle.number_writing.specs.Bytes.{bytes}
+use Rattle.table_rules.specs.declared.Task.{Task}
+use Rattle.table_rules.specs.declared.Table.{Table}
+use Rattle.table_rules.specs.declared.Answer.{Answer}
+use Rattle.table_rules.specs.declared.Answer.the-variants.{Accepted, Refused}
+use Rattle.table_rules.specs.Rules.{noTask}
+use Rattle.table_rules.specs.Judging.{judged}
 
 -- the 16 bytes of a task
 abbrev pub recordOf : Task → List ℕ

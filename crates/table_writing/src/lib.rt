@@ -1,8 +1,8 @@
 // Writing a table: the value's own refusal, then 14; bytes past the records stay, and a refused write leaves all.
-use tables::Answer;
-use tables::Table;
-use tables::Task;
-use tables::rules::judge;
+use table_rules::Answer;
+use table_rules::Table;
+use table_rules::Task;
+use table_rules::rules::judge;
 ghost use mathlib.Core.Path.{_≡_};
 ghost use mathlib.Core.List.{_++_};
 ghost use Prim.Native.Nat.{_+_, _*_, _≤_};
@@ -16,9 +16,9 @@ fn record_of(task: Task) -> [u8; 16]
     let mut row = [0u8; 16];
     row[0] = 0x54;
     row[1] = 0x4B;
-    word_writing::put32(&mut row[2..], task.c);
-    word_writing::put32(&mut row[6..], task.d);
-    word_writing::put32(&mut row[10..], task.t);
+    number_writing::put32(&mut row[2..], task.c);
+    number_writing::put32(&mut row[6..], task.d);
+    number_writing::put32(&mut row[10..], task.t);
     row[14] = task.m;
     row[15] = task.k;
     row

@@ -1,9 +1,9 @@
 -- `events::write` meets its contract: each way out is a rule of `Writes`.
 use mathlib.Core.Path.{sym, _∙_}
 use borrow.Author.Needs.{needs}
-use Rattle.events.specs.Event.{Judged}
+use Rattle.event_reading.specs.Event.{Judged}
 use Rattle.event_writing.specs.Writing.{cramped, stored}
-use Rattle.events.proofs.Rules.{judged-is, judge-0}
+use Rattle.event_reading.proofs.Rules.{judged-is, judge-0}
 use Rattle.event_writing.proofs.WriteOne.{writes-only, broken-is}
 use Rattle.event_writing.proofs.write.Statement.{statement}
 use Rattle.event_writing.proofs.write.Tie as tie

@@ -3,15 +3,15 @@ use Prim.Native.Nat.{ℕ}
 use mathlib.Core.Path.{_≡_, sym, ap, _∙_}
 use mathlib.Core.List.{List}
 use borrow.Author.Needs.{needs}
-use Rattle.tables.specs.declared.Answer.the-variants.{Accepted}
-use Rattle.table_bytes.specs.declared.TableRead.{TableRead}
-use Rattle.table_bytes.specs.Reading.{readTable}
-use Rattle.states.specs.declared.Started.{Started}
-use Rattle.states.specs.declared.State.{State}
-use Rattle.states.specs.State.{freshState, started}
-use Rattle.codes.specs.Code.{codeFor, logCase, codeOf}
-use Rattle.codes.proofs.Starts.{start-fresh}
-use Rattle.codes.proofs.Cases.{case-long, case-table, case-log}
+use Rattle.table_rules.specs.declared.Answer.the-variants.{Accepted}
+use Rattle.table_reading.specs.declared.TableRead.{TableRead}
+use Rattle.table_reading.specs.Table.{readTable}
+use Rattle.state_rules.specs.declared.Started.{Started}
+use Rattle.state_rules.specs.declared.State.{State}
+use Rattle.state_rules.specs.State.{freshState, started}
+use Rattle.rig_codes.specs.Code.{codeFor, logCase, codeOf}
+use Rattle.rig_codes.proofs.Starts.{start-fresh}
+use Rattle.rig_codes.proofs.Cases.{case-long, case-table, case-log}
 use Rattle.rig.proofs.brumerola_choice.Statement.{statement}
 use Rattle.rig.proofs.brumerola_choice.Tie as tie
 

@@ -3,11 +3,11 @@ use mathlib.Core.Path.{_≡_, refl, sym, _∙_}
 use native.Mathlib.Omega.{arith}
 use borrow.Author.Needs.{needs}
 use borrow.Author.Tests.{le-leb, lt-leb}
-use Rattle.tables.specs.declared.Answer.the-variants.{Accepted}
-use Rattle.tables.specs.Rules.{Counted}
-use Rattle.tables.specs.Judging.{judged}
+use Rattle.table_rules.specs.declared.Answer.the-variants.{Accepted}
+use Rattle.table_rules.specs.Rules.{Counted}
+use Rattle.table_rules.specs.Judging.{judged}
 use Rattle.table_writing.specs.Writing.{writeAnswer, wroteTable}
-use Rattle.tables.proofs.Exactly.{judged-accepted}
+use Rattle.table_rules.proofs.Exactly.{judged-accepted}
 use Rattle.table_writing.proofs.write.Statement.{statement}
 use Rattle.table_writing.proofs.write.Tie as tie
 

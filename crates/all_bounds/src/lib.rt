@@ -1,9 +1,0 @@
-// The bounds of all tasks beside the answer, which says whether each has one.
-pub mod of_table;
-
-use tables::Answer;
-
-pub struct Row {
-    pub answer: Answer,
-    pub cells: [u32; 16],
-}

@@ -1,2 +1,0 @@
--- What is shown of the tests beside the functions' contracts.
-pub mod Tested

@@ -1,0 +1,130 @@
+-- `above::load_of` meets its contract: a turn of the loop is a clause of the definition, and n never passes the places.
+use Prim.Native.Nat.{_-_, _≤_}
+use mathlib.Core.Path.{_≡_, refl, sym, _∙_}
+use mathlib.Core.Logic.{⊎-elim}
+use native.Mathlib.Numerals.{add-one}
+use native.Mathlib.Omega.{arith}
+use borrow.Author.Needs.{needs}
+use borrow.Author.Tests.{lt-ltb, le-ltb, le-leb, lt-leb}
+use Rattle.laws.specs.Sums.{total}
+use Rattle.bound_demand.specs.Load.{partsTo, loadAt}
+use Rattle.bound_demand.proofs.Gathering.{Loaded, count-few, loaded-skip, loaded-more, loaded-all}
+use Rattle.bound_demand.proofs.above.load_of.Statement.{statement}
+use Rattle.bound_demand.proofs.above.load_of.Tie as tie
+
+abbrev Inv-loop : tie.InvT-loop
+Inv-loop k table count own load₀ n₀ i₀ load n i = (i ≤ count) × Loaded table k load n i
+
+abbrev μ-loop : tie.MeasureT-loop
+μ-loop k table count own load₀ n₀ i₀ load n i = count - i
+
+empty-requires : tie.Need-empty-requires Inv-loop μ-loop
+empty-requires c κs = search needs
+
+returns : tie.Need-returns Inv-loop μ-loop
+unfolding loadAt
+returns c = rw (lt-ltb _ _ (c .before .if1 .taken)) (c .empty .ensures)
+
+empty-requires-2 : tie.Need-empty-requires-2 Inv-loop μ-loop
+empty-requires-2 c κs = search needs
+
+returns-2 : tie.Need-returns-2 Inv-loop μ-loop
+unfolding loadAt
+returns-2 c = rw (le-ltb _ _ (c .before .before .if1 .left), le-leb _ _ (c .before .if2 .taken)) (c .empty2 .ensures)
+
+mul-cost : tie.Need-mul-cost Inv-loop μ-loop
+mul-cost c = search needs
+
+element-copy-out-cost : tie.Need-element-copy-out-cost Inv-loop μ-loop
+element-copy-out-cost c = search needs
+
+cost-requires : tie.Need-cost-requires Inv-loop μ-loop
+cost-requires c κs = search needs
+
+empty-requires-3 : tie.Need-empty-requires-3 Inv-loop μ-loop
+empty-requires-3 c κs = search needs
+
+loop-holds : tie.Need-loop-holds Inv-loop μ-loop
+unfolding partsTo total
+loop-holds c = (omega arith, record { count = refl; load = rw (sym (c .before .cost .ensures)) (c .empty3 .ensures) })
+
+-- fewer parts than positions passed
+below : (c : tie.In-loop Inv-loop μ-loop) → c .before .loop .n ≤ c .before .loop .i
+below c =
+    let s = c .before .before .before .before .before .before .before in
+    rw (c .before .loop .inv .1 .count) (count-few (s .args .t1) (s .args .k) (c .before .loop .i))
+
+is-above-requires : tie.Need-is-above-requires Inv-loop μ-loop
+is-above-requires c κs = omega arith
+
+mul-part : tie.Need-mul-part Inv-loop μ-loop
+mul-part c = omega arith
+
+element-copy-out-part : tie.Need-element-copy-out-part Inv-loop μ-loop
+element-copy-out-part c = omega arith
+
+part-requires : tie.Need-part-requires Inv-loop μ-loop
+part-requires c κs = search needs
+
+mul-t23 : tie.Need-mul-t23 Inv-loop μ-loop
+mul-t23 c = omega (arith, below (c .before .before .before .before))
+
+element-set-from-load : tie.Need-element-set-from-load Inv-loop μ-loop
+element-set-from-load c = omega (arith, below (c .before .before .before .before))
+
+add-n : tie.Need-add-n Inv-loop μ-loop
+add-n c = omega (arith, below (c .before .before .before .before))
+
+add-i : tie.Need-add-i Inv-loop μ-loop
+add-i c = omega arith
+
+loop-less : tie.Need-loop-less Inv-loop μ-loop
+loop-less c = omega arith
+
+loop-again : tie.Need-loop-again Inv-loop μ-loop
+loop-again c =
+    let l = c .before .before .before .loop in
+    let s = c .before .before .before .before .before .before .before .before .before in
+    let t = s .args .t1 in
+    let k = s .args .k in
+    let a = sym (c .before .is-above .ensures) in (
+      omega arith,
+      ⊎-elim
+          (λ w. rw (w .3, w .4, w .2 .ensures, add-one (l .i)) (loaded-more t k (l .load) (l .n) (l .i) (l .inv .1) (a ∙ w .0 .taken)))
+          (λ w. rw (w .1, w .2, add-one (l .i)) (loaded-skip t k (l .load) (l .n) (l .i) (l .inv .1) (a ∙ w .0 .left)))
+          (c .if3 .came),
+    )
+
+returns-3 : tie.Need-returns-3 Inv-loop μ-loop
+returns-3 c =
+    let l = c .before .loop in
+    let s = c .before .before .before .before .before .before .before in
+    let e : l .i ≡ s .args .t1 .count = omega arith in
+    loaded-all (s .args .t1) (s .args .k) (l .load) (l .n) (omega arith) (omega arith) (rw e at (l .inv .1))
+
+pub load-of-spec : {M : Type 1} → statement M
+load-of-spec =
+    tie.close
+    (tie.spec
+    Inv-loop
+    μ-loop
+    empty-requires
+    returns
+    empty-requires-2
+    returns-2
+    mul-cost
+    element-copy-out-cost
+    cost-requires
+    empty-requires-3
+    loop-holds
+    is-above-requires
+    mul-part
+    element-copy-out-part
+    part-requires
+    mul-t23
+    element-set-from-load
+    add-n
+    add-i
+    loop-less
+    loop-again
+    returns-3)

@@ -1,0 +1,90 @@
+// The tasks above a task, gathered for the search: the order, the cost and the spacing are looked at here and nowhere else.
+use super::Load;
+use super::Part;
+use table_rules::Table;
+use table_rules::Task;
+ghost use mathlib.Core.Path.{_≡_};
+ghost use Prim.Native.Nat.{_<_};
+ghost use Rattle.bound_demand.specs.Above.{isAbove};
+ghost use Rattle.bound_demand.specs.Demand.{costOf, spacingOf};
+ghost use Rattle.bound_demand.specs.Load.{partFor, emptyLoad, loadAt};
+
+fn cost(task: Task) -> u32
+    ensures { λ r. ⌜ r ≡ costOf task ⌝ }
+{
+    task.c
+}
+
+fn spacing(task: Task) -> u32
+    ensures { λ r. ⌜ r ≡ spacingOf task ⌝ }
+{
+    task.t
+}
+
+// Smaller D, or equal D and smaller position.
+fn is_above(table: Table, i: usize, k: usize) -> bool
+    requires { ⌜ (i < 16) × (k < 16) ⌝ }
+    ensures { λ r. ⌜ r ≡ isAbove table i k ⌝ }
+{
+    let upper = table.tasks[i].d;
+    let lower = table.tasks[k].d;
+    if upper < lower {
+        return true;
+    }
+    if upper == lower {
+        return i < k;
+    }
+    false
+}
+
+fn part(task: Task) -> Part
+    ensures { λ r. ⌜ r ≡ partFor task ⌝ }
+{
+    let cost = cost(task);
+    let spacing = spacing(task);
+    Part {
+        cost: cost,
+        spacing: spacing,
+    }
+}
+
+fn empty(own: u32) -> Load
+    ensures { λ r. ⌜ r ≡ emptyLoad own ⌝ }
+{
+    let none = Part {
+        cost: 0,
+        spacing: 0,
+    };
+    let parts = [none; 16];
+    Load {
+        own: own,
+        count: 0,
+        parts: parts,
+    }
+}
+
+// All zeros where the table has over 16 tasks, or no task at k.
+pub fn load_of(table: Table, k: usize) -> Load
+    ensures { λ r. ⌜ r ≡ loadAt table k ⌝ }
+{
+    let count = table.count;
+    if 16 < count {
+        return empty(0);
+    }
+    if count <= k {
+        return empty(0);
+    }
+    let own = cost(table.tasks[k]);
+    let mut load = empty(own);
+    let mut n: usize = 0;
+    let mut i: usize = 0;
+    while i < count {
+        if is_above(table, i, k) {
+            load.parts[n] = part(table.tasks[i]);
+            n += 1;
+        }
+        i += 1;
+    }
+    load.count = n;
+    load
+}

@@ -1,3 +1,0 @@
--- What the rig's contract cites, in document 01's order.
-pub mod Code
-pub mod Given

@@ -1,8 +1,0 @@
--- What an event does, in document 01's order.
-pub mod Steps
-pub mod Apply
-pub mod Answers
-pub mod Verdict
-pub mod Leaves
-pub mod Choice
-pub mod Log

@@ -1,5 +1,0 @@
-// Events applied to a state, by value: the code of what `effects` defines.
-mod acting;
-pub mod apply;
-pub mod log;
-pub mod telling;

@@ -1,3 +1,0 @@
--- What the crate's contracts cite, in document 01's order.
-pub mod Opening
-pub mod Rank

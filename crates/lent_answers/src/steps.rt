@@ -1,0 +1,94 @@
+// What the walks do with an event and its ruling, on values.
+use super::Turn;
+use apply_engine::telling::told;
+use apply_events::Answer;
+use apply_events::Applied;
+use apply_ruling::Ruling;
+use apply_ruling::judging::seat;
+use event_reading::Event;
+use state_choice::Best;
+use state_rules::State;
+use table_rules::Task;
+use task_records::Record;
+ghost use mathlib.Core.Path.{_≡_};
+ghost use Rattle.apply_events.specs.Apply.{toldOf};
+ghost use Rattle.apply_ruling.specs.Ruling.{seatOf};
+ghost use Rattle.lent_answers.specs.Turns.{unsound, refusedTurn, acceptedTurn, placedBy};
+
+// Where the event's task stands in a row of this length.
+pub fn seat_of(event: Event, count: usize) -> usize
+    ensures { λ r. ⌜ r ≡ seatOf (event .task) count ⌝ }
+{
+    seat(event.task, count)
+}
+
+// The answer once the row is settled: the chosen job's class is its record's.
+pub fn told_of(best: Best, of: Record) -> Answer
+    ensures { λ r. ⌜ r ≡ toldOf best (of .class) ⌝ }
+{
+    told(best, of.class)
+}
+
+// The ruling on a row that is not sound; its record is none of the row's.
+pub fn unsound_ruling() -> Ruling
+    ensures { λ r. ⌜ r ≡ unsound ⌝ }
+{
+    Ruling {
+        refusal: 15,
+        after: Record {
+            task: Task {
+                c: 0,
+                d: 0,
+                t: 0,
+                m: 0,
+                k: 0,
+            },
+            level: 0,
+            run: 0,
+            live: false,
+            class: 0,
+            last: 0,
+            released: 0,
+            met: 0,
+            missed: 0,
+            marks: 0,
+            broken: 0,
+        },
+    }
+}
+
+// The clock becomes the event's time.
+pub fn accepted_turn(answer: Answer, event: Event) -> Turn
+    ensures { λ r. ⌜ r ≡ acceptedTurn answer event ⌝ }
+{
+    Turn {
+        answer: answer,
+        clock: event.time,
+    }
+}
+
+// The clock stays.
+pub fn refused_turn(ruling: Ruling, clock: u64) -> Turn
+    ensures { λ r. ⌜ r ≡ refusedTurn ruling clock ⌝ }
+{
+    Turn {
+        answer: Answer::Refused(ruling.refusal),
+        clock: clock,
+    }
+}
+
+// The row behind the count comes back to its state.
+pub fn placed(turn: Turn, count: usize, records: [Record; 16]) -> Applied
+    ensures { λ r. ⌜ r ≡ placedBy turn count records ⌝ }
+{
+    let answer = turn.answer;
+    let state = State {
+        count: count,
+        clock: turn.clock,
+        records: records,
+    };
+    Applied {
+        answer: answer,
+        state: state,
+    }
+}

@@ -1,4 +1,0 @@
--- What the walks share, what the choice over a row is, and how step 1 goes over it.
-pub mod Called
-pub mod Choices
-pub mod Expired

@@ -1,3 +1,0 @@
--- What is shown of soundness beside the functions' contracts.
-pub mod Kept
-pub mod Sounding

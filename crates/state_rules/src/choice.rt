@@ -1,0 +1,31 @@
+// The choice of a state: over the tasks that it counts.
+use super::State;
+use state_choice::Best;
+use state_choice::better_of;
+ghost use mathlib.Core.Path.{_≡_};
+ghost use Prim.Native.Nat.{min};
+ghost use Rattle.state_rules.specs.Choice.{chosen};
+
+// A state has 16 places, and so has a table, whatever it counts.
+pub fn places(count: usize) -> usize
+    ensures { λ r. ⌜ r ≡ min count 16 ⌝ }
+{
+    if 16 < count { 16 } else { count }
+}
+
+pub fn choose(state: State) -> Best
+    ensures { λ r. ⌜ r ≡ chosen state ⌝ }
+{
+    let count = places(state.count);
+    let mut best = Best {
+        found: false,
+        key: 0,
+        at: 0,
+    };
+    let mut i: usize = 0;
+    while i < count {
+        best = better_of(best, state.records[i], i);
+        i += 1;
+    }
+    best
+}

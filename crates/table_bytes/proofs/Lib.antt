@@ -1,3 +1,0 @@
--- What is shown of the table's bytes beside the functions' contracts.
-pub mod Exactly
-pub mod Given

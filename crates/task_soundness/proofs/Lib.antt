@@ -1,0 +1,4 @@
+-- What is shown of soundness beside the functions' contracts.
+pub mod Counts
+pub mod Kept
+pub mod Sounding

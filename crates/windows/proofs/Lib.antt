@@ -1,8 +1,0 @@
--- What is shown of a task's history, in document 01's order.
-pub mod Counts
-pub mod Marks
-pub mod Broken
-pub mod Rungs
-pub mod Ledgers
-pub mod Bound
-pub mod Worked

@@ -1,4 +1,0 @@
--- The words of the listing.
-pub mod Letters
-pub mod Words
-pub mod Fields

@@ -1,1 +1,0 @@
-// No code: the words of document 01's listing, letter by letter.
