@@ -1,4 +1,5 @@
--- The functions that the walks call, each with what `Plain` or `Loans` asks of a call of it: its contract, what is bound at a call, that it has what it asks, and what it gives.
+-- For each function that a walk of the engine calls, what `Plain` or `Loans` wants of the call: the contract, what is bound, that the precondition holds, and
+-- what the postcondition gives.
 use mathlib.Core.Path.{_≡_, refl}
 use Prim.Native.Nat.{ℕ, _<_, _^_}
 use mathlib.Core.List.{List, [], _∷_}
@@ -134,7 +135,8 @@ module _ {M : Type 1} (𝓤 : URA M) (H : Heap 𝓤) (A : Atoms 𝓤) (at-mem : 
   to-expire-all-in ys b o t ν δ = (((ν ∷ [], tt), (fullShare, tt), tt, (under δ ys b o, (t, tt)), (row-val ys b o ∷ [], (vint w64 t ∷ [], tt))), tt)
 
   abbrev pub to-apply-in : (ys : List Record) (b o c : ℕ) (e : Event) → ℕ → GName → ApplyIn .Ghost
-  to-apply-in ys b o c e ν δ = (((ν ∷ [], tt), (fullShare, tt), tt, (under δ ys b o, (c, (e, tt))), (row-val ys b o ∷ [], (vint w64 c ∷ [], (event-vals e, tt)))), tt)
+  to-apply-in ys b o c e ν δ =
+      (((ν ∷ [], tt), (fullShare, tt), tt, (under δ ys b o, (c, (e, tt))), (row-val ys b o ∷ [], (vint w64 c ∷ [], (event-vals e, tt)))), tt)
 
   module _ (W : Given 𝓤 H A) where
     -- ---- what a callee asks, plain data has for nothing
@@ -144,13 +146,15 @@ module _ {M : Type 1} (𝓤 : URA M) (H : Heap 𝓤) (A : Atoms 𝓤) (at-mem : 
         owned ! usize (Is usize) (uint-makes 𝓤 H A W w64) n (vint w64 n ∷ []) (refl, n-is) $ fjoin ! $
         owned ! E.the-row (Is E.the-row) (LL.makes E.the-type E′.the-plain 𝓤 H A) e (ev ∷ []) e-is $ fjoin ! $ nothing ! $ join ! $ frame ! $ done !
 
-    pub goes-told-of : (p : Best) (pv : Val) (h : Record) (hv : Val) → Is B.the-row p (pv ∷ []) → Is R.the-row h (hv ∷ []) → ent 𝓤 (emp 𝓤) (ToldOf .pre (to-told-of p pv h hv))
+    pub goes-told-of : (p : Best) (pv : Val) (h : Record) (hv : Val) → Is B.the-row p (pv ∷ []) → Is R.the-row h (hv ∷ [])
+        → ent 𝓤 (emp 𝓤) (ToldOf .pre (to-told-of p pv h hv))
     goes-told-of p pv h hv p-is h-is =
         qed W [] ∵ nothing ! $
         owned ! R.the-row (Is R.the-row) (LL.makes R.the-type R′.the-plain 𝓤 H A) h (hv ∷ []) h-is $ fjoin ! $
         owned ! B.the-row (Is B.the-row) (LL.makes B.the-type B′.the-plain 𝓤 H A) p (pv ∷ []) p-is $ fjoin ! $ nothing ! $ join ! $ frame ! $ done !
 
-    pub goes-rule : (c : ℕ) (n : ℕ) (h : Record) (hv : Val) (e : Event) (ev : Val) → c < 2 ^ 64 → n < 2 ^ 64 → Is R.the-row h (hv ∷ []) → Is E.the-row e (ev ∷ []) → ent 𝓤 (emp 𝓤) (Rule .pre (to-rule c n h hv e ev))
+    pub goes-rule : (c : ℕ) (n : ℕ) (h : Record) (hv : Val) (e : Event) (ev : Val) → c < 2 ^ 64 → n < 2 ^ 64 → Is R.the-row h (hv ∷ [])
+        → Is E.the-row e (ev ∷ []) → ent 𝓤 (emp 𝓤) (Rule .pre (to-rule c n h hv e ev))
     goes-rule c n h hv e ev c-is n-is h-is e-is =
         qed W [] ∵ nothing ! $
         owned ! E.the-row (Is E.the-row) (LL.makes E.the-type E′.the-plain 𝓤 H A) e (ev ∷ []) e-is $ fjoin ! $
@@ -162,7 +166,8 @@ module _ {M : Type 1} (𝓤 : URA M) (H : Heap 𝓤) (A : Atoms 𝓤) (at-mem : 
     goes-unsound-ruling =
         qed W [] ∵ nothing ! $ nothing ! $ join ! $ frame ! $ done !
 
-    pub goes-accepted-turn : (x : Answer) (xv : Val) (e : Event) (ev : Val) → Is S.the-row x (xv ∷ []) → Is E.the-row e (ev ∷ []) → ent 𝓤 (emp 𝓤) (AcceptedTurn .pre (to-accepted-turn x xv e ev))
+    pub goes-accepted-turn : (x : Answer) (xv : Val) (e : Event) (ev : Val) → Is S.the-row x (xv ∷ []) → Is E.the-row e (ev ∷ [])
+        → ent 𝓤 (emp 𝓤) (AcceptedTurn .pre (to-accepted-turn x xv e ev))
     goes-accepted-turn x xv e ev x-is e-is =
         qed W [] ∵ nothing ! $
         owned ! E.the-row (Is E.the-row) (LL.makes E.the-type E′.the-plain 𝓤 H A) e (ev ∷ []) e-is $ fjoin ! $
@@ -174,10 +179,12 @@ module _ {M : Type 1} (𝓤 : URA M) (H : Heap 𝓤) (A : Atoms 𝓤) (at-mem : 
         owned ! u64 (Is u64) (uint-makes 𝓤 H A W w64) c (vint w64 c ∷ []) (refl, c-is) $ fjoin ! $
         owned ! Q.the-row (Is Q.the-row) (LL.makes Q.the-type Q′.the-plain 𝓤 H A) q (qv ∷ []) q-is $ fjoin ! $ nothing ! $ join ! $ frame ! $ done !
 
-    pub goes-placed : (u : Turn) (uv : Val) (n : ℕ) (l : List Record) (lv : Val) → Is U.the-row u (uv ∷ []) → n < 2 ^ 64 → Is (Array R.the-row 16) l (lv ∷ []) → ent 𝓤 (emp 𝓤) (Placed .pre (to-placed u uv n l lv))
+    pub goes-placed : (u : Turn) (uv : Val) (n : ℕ) (l : List Record) (lv : Val) → Is U.the-row u (uv ∷ []) → n < 2 ^ 64 → Is (Array R.the-row 16) l (lv ∷ [])
+        → ent 𝓤 (emp 𝓤) (Placed .pre (to-placed u uv n l lv))
     goes-placed u uv n l lv u-is n-is l-is =
         qed W [] ∵ nothing ! $
-        owned ! (Array R.the-row 16) (Is (Array R.the-row 16)) (array-makes 𝓤 H A W R.the-row (LL.makes R.the-type R′.the-plain 𝓤 H A) 16) l (lv ∷ []) l-is $ fjoin ! $
+        owned ! (Array R.the-row 16) (Is (Array R.the-row 16)) (array-makes 𝓤 H A W R.the-row (LL.makes R.the-type R′.the-plain 𝓤 H A) 16) l
+        (lv ∷ []) l-is $ fjoin ! $
         owned ! usize (Is usize) (uint-makes 𝓤 H A W w64) n (vint w64 n ∷ []) (refl, n-is) $ fjoin ! $
         owned ! U.the-row (Is U.the-row) (LL.makes U.the-type U′.the-plain 𝓤 H A) u (uv ∷ []) u-is $ fjoin ! $ nothing ! $ join ! $ frame ! $ done !
 
@@ -189,50 +196,73 @@ module _ {M : Type 1} (𝓤 : URA M) (H : Heap 𝓤) (A : Atoms 𝓤) (at-mem : 
         → ent 𝓤 (sep 𝓤 (A .lft (ν ∷ []) fullShare) (sem 𝓤 H A (row-lent ys b o room .own ν δ))) (ExpireAllIn .pre (to-expire-all-in ys b o t ν δ))
     goes-expire-all-in ys b o t room t-is ν δ =
         qed W (‵ (flft (ν ∷ []) fullShare) ∷ ‵ (row-lent ys b o room .own ν δ) ∷ []) ∵ nothing ! $ move ! (1 ∷ 0 ∷ []) $ join ! $
-        nothing ! $ owned ! u64 (Is u64) (uint-makes 𝓤 H A W w64) t (vint w64 t ∷ []) (refl, t-is) $ fjoin ! $ move ! (2 ∷ 0 ∷ []) $ fjoin ! $ move ! (1 ∷ 0 ∷ []) $ join ! $ frame ! $ done !
+        nothing ! $ owned ! u64 (Is u64) (uint-makes 𝓤 H A W w64) t (vint w64 t ∷ []) (refl, t-is) $ fjoin ! $ move ! (2 ∷ 0 ∷ []) $ fjoin ! $
+        move ! (1 ∷ 0 ∷ []) $ join ! $ frame ! $ done !
 
-    pub goes-apply-in : (ys : List Record) (b o c : ℕ) (e : Event) (room : Room R.the-row (length ys)) → c < 2 ^ 64 → Is E.the-row e (event-vals e) → (ν : ℕ) (δ : GName)
+    pub goes-apply-in : (ys : List Record) (b o c : ℕ) (e : Event) (room : Room R.the-row (length ys)) → c < 2 ^ 64
+        → Is E.the-row e (event-vals e) → (ν : ℕ) (δ : GName)
         → ent 𝓤 (sep 𝓤 (A .lft (ν ∷ []) fullShare) (sem 𝓤 H A (row-lent ys b o room .own ν δ))) (ApplyIn .pre (to-apply-in ys b o c e ν δ))
     goes-apply-in ys b o c e room c-is e-is ν δ =
         qed W (‵ (flft (ν ∷ []) fullShare) ∷ ‵ (row-lent ys b o room .own ν δ) ∷ []) ∵ nothing ! $ move ! (1 ∷ 0 ∷ []) $ join ! $
-        nothing ! $ owned ! E.the-row (Is E.the-row) (LL.makes E.the-type E′.the-plain 𝓤 H A) e (event-vals e) e-is $ fjoin ! $ owned ! u64 (Is u64) (uint-makes 𝓤 H A W w64) c (vint w64 c ∷ []) (refl, c-is) $ fjoin ! $
+        nothing ! $ owned ! E.the-row (Is E.the-row) (LL.makes E.the-type E′.the-plain 𝓤 H A) e (event-vals e) e-is $ fjoin ! $
+        owned ! u64 (Is u64) (uint-makes 𝓤 H A W w64) c (vint w64 c ∷ []) (refl, c-is) $ fjoin ! $
         move ! (2 ∷ 0 ∷ []) $ fjoin ! $ move ! (1 ∷ 0 ∷ []) $ join ! $ frame ! $ done !
 
     -- ---- what it gives
     pub seat-of-gives : (e : Event) (ev : Val) (n : ℕ) → Gives 𝓤 H A SeatOf (to-seat-of e ev n) usize (λ r. r ≡ seatOf (e .task) n)
-    seat-of-gives e ev n w = taken 𝓤 H A W usize (λ r. r ≡ seatOf (e .task) n) (ensured 𝓤 H A seat-of.ended (seat-of.clauses 𝓤 H A at-mem run) tt (e, (n, tt)) tt) w
+    seat-of-gives e ev n w =
+        taken 𝓤 H A W usize (λ r. r ≡ seatOf (e .task) n) (ensured 𝓤 H A seat-of.ended (seat-of.clauses 𝓤 H A at-mem run) tt (e, (n, tt)) tt) w
         (λ r. exE 𝓤 _ (λ ws. snd∗ 𝓤 (sem 𝓤 H A (lasts seat-of.ended tt (e, (n, tt)) ws)) (fact 𝓤 (r ≡ seatOf (e .task) n))))
 
     pub told-of-gives : (p : Best) (pv : Val) (h : Record) (hv : Val) → Gives 𝓤 H A ToldOf (to-told-of p pv h hv) S.the-row (λ r. r ≡ toldOf p (h .class))
-    told-of-gives p pv h hv w = taken 𝓤 H A W S.the-row (λ r. r ≡ toldOf p (h .class)) (ensured 𝓤 H A told-of.ended (told-of.clauses 𝓤 H A at-mem run) tt (p, (h, tt)) tt) w
+    told-of-gives p pv h hv w =
+        taken 𝓤 H A W S.the-row (λ r. r ≡ toldOf p (h .class)) (ensured 𝓤 H A told-of.ended (told-of.clauses 𝓤 H A at-mem run) tt (p, (h, tt)) tt) w
         (λ r. exE 𝓤 _ (λ ws. snd∗ 𝓤 (sem 𝓤 H A (lasts told-of.ended tt (p, (h, tt)) ws)) (fact 𝓤 (r ≡ toldOf p (h .class)))))
 
-    pub rule-gives : (c : ℕ) (n : ℕ) (h : Record) (hv : Val) (e : Event) (ev : Val) → Gives 𝓤 H A Rule (to-rule c n h hv e ev) Q.the-row (λ r. r ≡ ruled c n h e)
-    rule-gives c n h hv e ev w = taken 𝓤 H A W Q.the-row (λ r. r ≡ ruled c n h e) (ensured 𝓤 H A rule.ended (rule.clauses 𝓤 H A at-mem run) tt (c, (n, (h, (e, tt)))) tt) w
+    pub rule-gives : (c : ℕ) (n : ℕ) (h : Record) (hv : Val) (e : Event) (ev : Val)
+        → Gives 𝓤 H A Rule (to-rule c n h hv e ev) Q.the-row (λ r. r ≡ ruled c n h e)
+    rule-gives c n h hv e ev w =
+        taken 𝓤 H A W Q.the-row (λ r. r ≡ ruled c n h e) (ensured 𝓤 H A rule.ended (rule.clauses 𝓤 H A at-mem run) tt (c, (n, (h, (e, tt)))) tt) w
         (λ r. exE 𝓤 _ (λ ws. snd∗ 𝓤 (sem 𝓤 H A (lasts rule.ended tt (c, (n, (h, (e, tt)))) ws)) (fact 𝓤 (r ≡ ruled c n h e))))
 
     pub unsound-ruling-gives : Gives 𝓤 H A UnsoundRuling to-unsound-ruling Q.the-row (λ r. r ≡ unsound)
-    unsound-ruling-gives w = taken 𝓤 H A W Q.the-row (λ r. r ≡ unsound) (ensured 𝓤 H A unsound-ruling.ended (unsound-ruling.clauses 𝓤 H A at-mem run) tt tt tt) w
+    unsound-ruling-gives w =
+        taken 𝓤 H A W Q.the-row (λ r. r ≡ unsound) (ensured 𝓤 H A unsound-ruling.ended (unsound-ruling.clauses 𝓤 H A at-mem run) tt tt tt) w
         (λ r. exE 𝓤 _ (λ ws. snd∗ 𝓤 (sem 𝓤 H A (lasts unsound-ruling.ended tt tt ws)) (fact 𝓤 (r ≡ unsound))))
 
-    pub accepted-turn-gives : (x : Answer) (xv : Val) (e : Event) (ev : Val) → Gives 𝓤 H A AcceptedTurn (to-accepted-turn x xv e ev) U.the-row (λ r. r ≡ acceptedTurn x e)
-    accepted-turn-gives x xv e ev w = taken 𝓤 H A W U.the-row (λ r. r ≡ acceptedTurn x e) (ensured 𝓤 H A accepted-turn.ended (accepted-turn.clauses 𝓤 H A at-mem run) tt (x, (e, tt)) tt) w
+    pub accepted-turn-gives : (x : Answer) (xv : Val) (e : Event) (ev : Val)
+        → Gives 𝓤 H A AcceptedTurn (to-accepted-turn x xv e ev) U.the-row (λ r. r ≡ acceptedTurn x e)
+    accepted-turn-gives x xv e ev w =
+        taken 𝓤 H A W U.the-row (λ r. r ≡ acceptedTurn x e) (ensured 𝓤 H A accepted-turn.ended (accepted-turn.clauses 𝓤 H A at-mem run) tt (x, (e, tt)) tt) w
         (λ r. exE 𝓤 _ (λ ws. snd∗ 𝓤 (sem 𝓤 H A (lasts accepted-turn.ended tt (x, (e, tt)) ws)) (fact 𝓤 (r ≡ acceptedTurn x e))))
 
     pub refused-turn-gives : (q : Ruling) (qv : Val) (c : ℕ) → Gives 𝓤 H A RefusedTurn (to-refused-turn q qv c) U.the-row (λ r. r ≡ refusedTurn q c)
-    refused-turn-gives q qv c w = taken 𝓤 H A W U.the-row (λ r. r ≡ refusedTurn q c) (ensured 𝓤 H A refused-turn.ended (refused-turn.clauses 𝓤 H A at-mem run) tt (q, (c, tt)) tt) w
+    refused-turn-gives q qv c w =
+        taken 𝓤 H A W U.the-row (λ r. r ≡ refusedTurn q c) (ensured 𝓤 H A refused-turn.ended (refused-turn.clauses 𝓤 H A at-mem run) tt (q, (c, tt)) tt) w
         (λ r. exE 𝓤 _ (λ ws. snd∗ 𝓤 (sem 𝓤 H A (lasts refused-turn.ended tt (q, (c, tt)) ws)) (fact 𝓤 (r ≡ refusedTurn q c))))
 
-    pub placed-gives : (u : Turn) (uv : Val) (n : ℕ) (l : List Record) (lv : Val) → Gives 𝓤 H A Placed (to-placed u uv n l lv) P.the-row (λ r. r ≡ placedBy u n l)
-    placed-gives u uv n l lv w = taken 𝓤 H A W P.the-row (λ r. r ≡ placedBy u n l) (ensured 𝓤 H A placed.ended (placed.clauses 𝓤 H A at-mem run) tt (u, (n, (l, tt))) tt) w
+    pub placed-gives : (u : Turn) (uv : Val) (n : ℕ) (l : List Record) (lv : Val)
+        → Gives 𝓤 H A Placed (to-placed u uv n l lv) P.the-row (λ r. r ≡ placedBy u n l)
+    placed-gives u uv n l lv w =
+        taken 𝓤 H A W P.the-row (λ r. r ≡ placedBy u n l) (ensured 𝓤 H A placed.ended (placed.clauses 𝓤 H A at-mem run) tt (u, (n, (l, tt))) tt) w
         (λ r. exE 𝓤 _ (λ ws. snd∗ 𝓤 (sem 𝓤 H A (lasts placed.ended tt (u, (n, (l, tt))) ws)) (fact 𝓤 (r ≡ placedBy u n l))))
 
-    pub expire-all-in-gives : (ys : List Record) (b o t : ℕ) (room : Room R.the-row (length ys)) → GivesBack 𝓤 H A (row-lent ys b o room) ExpireAllIn (to-expire-all-in ys b o t) unit (λ _ zs. (length zs ≡ length ys) × (zs ≡ expiredRow ys t))
-    expire-all-in-gives ys b o t room ν δ w = returned 𝓤 H A W ν unit (row-lent ys b o room .last δ) (λ _ zs. (length zs ≡ length ys) × (zs ≡ expiredRow ys t)) (ensured 𝓤 H A expire-all-in.ended (expire-all-in.clauses 𝓤 H A at-mem run) (ν ∷ [], tt) (under δ ys b o, (t, tt)) tt) w
-        (λ _. exE 𝓤 _ (λ ws. qed W (‵ (lasts expire-all-in.ended (ν ∷ [], tt) (under δ ys b o, (t, tt)) ws) ∷ raw (fact 𝓤 (ws .0 ≡ expiredRow ys t)) ∷ []) ∵ fsplit ! $ fsplit ! $ move ! (1 ∷ []) $ feqL ! (λ len. keep ! (0 ∷ 2 ∷ []) $
-        by ! (told 𝓤 H A W (row-lent ys b o room .last δ) (λ zs. zs ≡ expiredRow ys t) (λ zs. (length zs ≡ length ys) × (zs ≡ expiredRow ys t)) (ws .0) (λ p. (len, p))))))
+    pub expire-all-in-gives : (ys : List Record) (b o t : ℕ) (room : Room R.the-row (length ys))
+        → GivesBack 𝓤 H A (row-lent ys b o room) ExpireAllIn (to-expire-all-in ys b o t) unit (λ _ zs. (length zs ≡ length ys) × (zs ≡ expiredRow ys t))
+    expire-all-in-gives ys b o t room ν δ w =
+        returned 𝓤 H A W ν unit (row-lent ys b o room .last δ) (λ _ zs. (length zs ≡ length ys) × (zs ≡ expiredRow ys t))
+        (ensured 𝓤 H A expire-all-in.ended (expire-all-in.clauses 𝓤 H A at-mem run) (ν ∷ [], tt) (under δ ys b o, (t, tt)) tt) w
+        (λ _. exE 𝓤 _ (λ ws. qed W (‵ (lasts expire-all-in.ended (ν ∷ [], tt) (under δ ys b o, (t, tt)) ws) ∷ raw (fact 𝓤 (ws .0 ≡ expiredRow ys t)) ∷ []) ∵
+        fsplit ! $ fsplit ! $ move ! (1 ∷ []) $ feqL ! (λ len. keep ! (0 ∷ 2 ∷ []) $
+        by ! (told 𝓤 H A W (row-lent ys b o room .last δ) (λ zs. zs ≡ expiredRow ys t) (λ zs. (length zs ≡ length ys) × (zs ≡ expiredRow ys t))
+        (ws .0) (λ p. (len, p))))))
 
-    pub apply-in-gives : (ys : List Record) (b o c : ℕ) (e : Event) (room : Room R.the-row (length ys)) → GivesBack 𝓤 H A (row-lent ys b o room) ApplyIn (to-apply-in ys b o c e) U.the-row (λ u zs. (length zs ≡ length ys) × (TurnSays ys c e u zs))
-    apply-in-gives ys b o c e room ν δ w = returned 𝓤 H A W ν U.the-row (row-lent ys b o room .last δ) (λ u zs. (length zs ≡ length ys) × (TurnSays ys c e u zs)) (ensured 𝓤 H A apply-in.ended (apply-in.clauses 𝓤 H A at-mem run) (ν ∷ [], tt) (under δ ys b o, (c, (e, tt))) tt) w
-        (λ u. exE 𝓤 _ (λ ws. qed W (‵ (lasts apply-in.ended (ν ∷ [], tt) (under δ ys b o, (c, (e, tt))) ws) ∷ raw (fact 𝓤 (TurnSays ys c e u (ws .0))) ∷ []) ∵ fsplit ! $ fsplit ! $ move ! (1 ∷ []) $ feqL ! (λ len. keep ! (0 ∷ 2 ∷ []) $
-        by ! (told 𝓤 H A W (row-lent ys b o room .last δ) (λ zs. TurnSays ys c e u zs) (λ zs. (length zs ≡ length ys) × (TurnSays ys c e u zs)) (ws .0) (λ p. (len, p))))))
+    pub apply-in-gives : (ys : List Record) (b o c : ℕ) (e : Event) (room : Room R.the-row (length ys))
+        → GivesBack 𝓤 H A (row-lent ys b o room) ApplyIn (to-apply-in ys b o c e) U.the-row (λ u zs. (length zs ≡ length ys) × (TurnSays ys c e u zs))
+    apply-in-gives ys b o c e room ν δ w =
+        returned 𝓤 H A W ν U.the-row (row-lent ys b o room .last δ) (λ u zs. (length zs ≡ length ys) × (TurnSays ys c e u zs))
+        (ensured 𝓤 H A apply-in.ended (apply-in.clauses 𝓤 H A at-mem run) (ν ∷ [], tt) (under δ ys b o, (c, (e, tt))) tt) w
+        (λ u. exE 𝓤 _ (λ ws. qed W (‵ (lasts apply-in.ended (ν ∷ [], tt) (under δ ys b o, (c, (e, tt))) ws) ∷ raw (fact 𝓤 (TurnSays ys c e u (ws .0))) ∷ []) ∵
+        fsplit ! $ fsplit ! $ move ! (1 ∷ []) $ feqL ! (λ len. keep ! (0 ∷ 2 ∷ []) $
+        by ! (told 𝓤 H A W (row-lent ys b o room .last δ) (λ zs. TurnSays ys c e u zs) (λ zs. (length zs ≡ length ys) × (TurnSays ys c e u zs))
+        (ws .0) (λ p. (len, p))))))

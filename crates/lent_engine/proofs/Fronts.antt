@@ -2,15 +2,15 @@
 use Prim.Native.Nat.{ℕ, zero, suc, min, _≤_, _<_}
 use mathlib.Core.Path.{_≡_, refl, sym, ap, subst, _∙_}
 use mathlib.Core.Bool.{Bool, true, false}
-use mathlib.Core.List.{List, [], _∷_, _++_}
+use mathlib.Core.List.{List, _++_}
 use native.Mathlib.Decide.{ℕ-discrete}
-use native.Mathlib.Nat.{le-refl, not-suc-le-zero}
+use native.Mathlib.Nat.{le-refl}
 use native.Mathlib.Omega.{arith}
 use borrow.Author.Tests.{le-leb, lt-leb}
 use lib.ListN.{length, getD, set, take, drop, length-take, take-append-drop}
 use lib.Seq.{getD-take}
 use Rattle.laws.specs.Stores.{filled}
-use Rattle.laws.proofs.Stores.{filled-same}
+use Rattle.laws.proofs.Stores.{filled-same, take-set, drop-set, take-filled, drop-filled}
 use Rattle.event_reading.specs.declared.Event.{Event}
 use Rattle.task_records.specs.declared.Record.{Record}
 use Rattle.task_steps.specs.Opening.{expired, noRecord}
@@ -35,32 +35,6 @@ use Rattle.lent_answers.specs.Turns.{placedBy}
 use Rattle.lent_records.proofs.Choices.{best-front}
 use Rattle.apply_ruling.proofs.Prompt.{seat-below}
 use Rattle.lent_answers.proofs.Turns.{TurnSays}
-
--- ---- the front and the rest of a row that is stored to
-
-module _ {A : Type 0} where
-  take-set : (n k : ℕ) (l : List A) (x : A) → take n (set l k x) ≡ set (take n l) k x
-  take-set zero k l x = refl
-  take-set (suc n) k [] x = refl
-  take-set (suc n) zero (y ∷ l) x = refl
-  take-set (suc n) (suc k) (y ∷ l) x = ap (λ (r : List A). y ∷ r) (take-set n k l x)
-
-  drop-set : (n k : ℕ) (l : List A) (x : A) → k < n → drop n (set l k x) ≡ drop n l
-  drop-set zero k l x h = absurd (not-suc-le-zero h)
-  drop-set (suc n) k [] x h = refl
-  drop-set (suc n) zero (y ∷ l) x h = refl
-  drop-set (suc n) (suc k) (y ∷ l) x h = drop-set n k l x (omega arith)
-
-  module _ (f : ℕ → A) (l : List A) (n : ℕ) where
-    take-filled : (m : ℕ) → take n (filled f m l) ≡ filled f m (take n l)
-    unfolding filled
-    take-filled zero = refl
-    take-filled (suc m) = take-set n m (filled f m l) (f m) ∙ ap (λ (r : List A). set r m (f m)) (take-filled m)
-
-    drop-filled : (m : ℕ) → m ≤ n → drop n (filled f m l) ≡ drop n l
-    unfolding filled
-    drop-filled zero h = refl
-    drop-filled (suc m) h = drop-set n m (filled f m l) (f m) h ∙ drop-filled m (omega arith)
 
 each-front : (l : List Record) (c n k : ℕ) → k ≤ n → eachHolds (take n l) c k ≡ eachHolds l c k
 unfolding eachHolds
@@ -88,7 +62,9 @@ module _ (s : State) (e : Event) where
 
   -- so the row's records and the places past them are the state's
   pub whole : {a b : Applied} → Same a b → b .state .records ≡ a .state .records ++ drop n l
-  whole {a} {b} g = sym (take-append-drop n (b .state .records)) ∙ ap (λ (x : List Record). x ++ drop n (b .state .records)) (sym (g .front)) ∙ ap (λ (x : List Record). a .state .records ++ x) (g .rest)
+  whole {a} {b} g =
+      sym (take-append-drop n (b .state .records)) ∙ ap (λ (x : List Record). x ++ drop n (b .state .records)) (sym (g .front))
+      ∙ ap (λ (x : List Record). a .state .records ++ x) (g .rest)
 
   -- the row of the tasks, as a state that counts as many
   abbrev f : State
@@ -120,7 +96,8 @@ module _ (s : State) (e : Event) where
         let m = min n 16 in
         let b : bestTo (take n r) m ≡ bestTo r m = best-front r n m (omega arith) in
         let w : bestTo r m .at < m = best-within r m (omega arith) in
-        ap (λ (x : Best). toldOf x (getD (take n r) (x .at) noRecord .class)) b ∙ ap (λ (x : Record). toldOf (bestTo r m) (x .class)) (getD-take n r (bestTo r m .at) noRecord (omega (arith, w)))
+        ap (λ (x : Best). toldOf x (getD (take n r) (x .at) noRecord .class)) b
+        ∙ ap (λ (x : Record). toldOf (bestTo r m) (x .class)) (getD-take n r (bestTo r m .at) noRecord (omega (arith, w)))
 
     accepts-same : (x : Record) → Same (accepted f t (set (expiredAll f t) (seatOf (e .task) n) x)) (accepted s t (stored x))
     accepts-same x =
@@ -142,7 +119,8 @@ module _ (s : State) (e : Event) where
       subst (λ (r : Record). Decides f e k (acted f e) (ruled (s .clock) n r e)) (below k (seat-below (e .task) n some)) (decided f e p′) in
       go some q d d′ (ℕ-discrete (q .refusal) 0)
     where
-      go : 0 < n → (q : Ruling) → Decides s e (seatOf (e .task) n) (acted s e) q → Decides f e (seatOf (e .task) n) (acted f e) q → Dec (q .refusal ≡ 0) → Same (acted f e) (acted s e)
+      go : 0 < n → (q : Ruling) → Decides s e (seatOf (e .task) n) (acted s e) q → Decides f e (seatOf (e .task) n) (acted f e) q → Dec (q .refusal ≡ 0)
+          → Same (acted f e) (acted s e)
       go some q d d′ (yes z) = rw (accepted-by s e d z .same, accepted-by f e d′ z .same) (accepts-same some (q .after))
       go some q d d′ (no z) = rw (refused-by s e d z, refused-by f e d′ z) (as-given (q .refusal))
 
@@ -167,7 +145,8 @@ module _ (s : State) (e : Event) where
       made (said .0 ∙ g .answer) (sym (count-stays s e)) (said .1 .0 ∙ g .clock) (ap (λ (r : List Record). r ++ drop n l) (said .1 .1) ∙ sym (whole g))
     where
       made : {a a′ : Answer} {k k′ c c′ : ℕ} {r r′ : List Record} → a ≡ a′ → k ≡ k′ → c ≡ c′ → r ≡ r′
-          → _≡_ {A = Applied} (record { answer = a; state = record { count = k; clock = c; records = r } }) (record { answer = a′; state = record { count = k′; clock = c′; records = r′ } })
+          → _≡_ {A = Applied} (record { answer = a; state = record { count = k; clock = c; records = r } })
+          (record { answer = a′; state = record { count = k′; clock = c′; records = r′ } })
       made p q o w = rw (p, q, o, w)
 
 -- more than 16 tasks are never sound

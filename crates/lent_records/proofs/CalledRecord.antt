@@ -1,4 +1,5 @@
--- The functions that the walks call, each with what `Plain` or `Loans` asks of a call of it: its contract, what is bound at a call, that it has what it asks, and what it gives.
+-- For each function that a walk over one record calls, what `Plain` or `Loans` wants of the call: the contract, what is bound, that the precondition holds,
+-- and what the postcondition gives.
 use mathlib.Core.Path.{_≡_, refl}
 use Prim.Native.Nat.{ℕ, _<_, _^_}
 use mathlib.Core.Bool.{Bool}
@@ -73,10 +74,12 @@ module _ {M : Type 1} (𝓤 : URA M) (H : Heap 𝓤) (A : Atoms 𝓤) (at-mem : 
     abbrev one-lent : (h : Record) (b o : ℕ) → Loan 𝓤 H A Record
     one-lent = lent-ref 𝓤 H A W R.the-row
 
-    pub goes-close-in : (h : Record) (b o : ℕ) (m : Bool) (ν : ℕ) (δ : GName) → ent 𝓤 (sep 𝓤 (A .lft (ν ∷ []) fullShare) (sem 𝓤 H A (one-lent h b o .own ν δ))) (CloseIn .pre (to-close-in h b o m ν δ))
+    pub goes-close-in : (h : Record) (b o : ℕ) (m : Bool) (ν : ℕ) (δ : GName)
+        → ent 𝓤 (sep 𝓤 (A .lft (ν ∷ []) fullShare) (sem 𝓤 H A (one-lent h b o .own ν δ))) (CloseIn .pre (to-close-in h b o m ν δ))
     goes-close-in h b o m ν δ =
         qed W (‵ (flft (ν ∷ []) fullShare) ∷ ‵ (one-lent h b o .own ν δ) ∷ []) ∵ nothing ! $ move ! (1 ∷ 0 ∷ []) $ join ! $
-        nothing ! $ owned ! bool (Is bool) (bool-makes 𝓤 H A W) m (vbool m ∷ []) refl $ fjoin ! $ move ! (2 ∷ 0 ∷ []) $ fjoin ! $ move ! (1 ∷ 0 ∷ []) $ join ! $ frame ! $ done !
+        nothing ! $ owned ! bool (Is bool) (bool-makes 𝓤 H A W) m (vbool m ∷ []) refl $ fjoin ! $ move ! (2 ∷ 0 ∷ []) $ fjoin ! $ move ! (1 ∷ 0 ∷ []) $
+        join ! $ frame ! $ done !
 
     -- ---- what it gives
     pub close-gives : (h : Record) (hv : Val) (m : Bool) → Gives 𝓤 H A Close (to-close h hv m) R.the-row (λ r. r ≡ closed h m)
@@ -88,6 +91,9 @@ module _ {M : Type 1} (𝓤 : URA M) (H : Heap 𝓤) (A : Atoms 𝓤) (at-mem : 
         (λ r. exE 𝓤 _ (λ ws. snd∗ 𝓤 (sem 𝓤 H A (lasts is-late.ended tt (h, (t, tt)) ws)) (fact 𝓤 (r ≡ late h t))))
 
     pub close-in-gives : (h : Record) (b o : ℕ) (m : Bool) → GivesBack 𝓤 H A (one-lent h b o) CloseIn (to-close-in h b o m) unit (λ _ z. z ≡ closed h m)
-    close-in-gives h b o m ν δ w = returned 𝓤 H A W ν unit (one-lent h b o .last δ) (λ _ z. z ≡ closed h m) (ensured 𝓤 H A close-in.ended (close-in.clauses 𝓤 H A at-mem run) (ν ∷ [], tt) (under δ h b o, (m, tt)) tt) w
-        (λ _. exE 𝓤 _ (λ ws. qed W (‵ (lasts close-in.ended (ν ∷ [], tt) (under δ h b o, (m, tt)) ws) ∷ raw (fact 𝓤 (ws .0 ≡ closed h m)) ∷ []) ∵ fsplit ! $ keep ! (0 ∷ 2 ∷ []) $
+    close-in-gives h b o m ν δ w =
+        returned 𝓤 H A W ν unit (one-lent h b o .last δ) (λ _ z. z ≡ closed h m)
+        (ensured 𝓤 H A close-in.ended (close-in.clauses 𝓤 H A at-mem run) (ν ∷ [], tt) (under δ h b o, (m, tt)) tt) w
+        (λ _. exE 𝓤 _ (λ ws. qed W (‵ (lasts close-in.ended (ν ∷ [], tt) (under δ h b o, (m, tt)) ws) ∷ raw (fact 𝓤 (ws .0 ≡ closed h m)) ∷ []) ∵
+        fsplit ! $ keep ! (0 ∷ 2 ∷ []) $
         by ! (told 𝓤 H A W (one-lent h b o .last δ) (λ z. z ≡ closed h m) (λ z. z ≡ closed h m) (ws .0) (λ p. p))))

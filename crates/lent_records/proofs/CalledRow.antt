@@ -1,4 +1,5 @@
--- The functions that the walks call, each with what `Plain` or `Loans` asks of a call of it: its contract, what is bound at a call, that it has what it asks, and what it gives.
+-- For each function that a walk over a row calls, what `Plain` or `Loans` wants of the call: the contract, what is bound, that the precondition holds, and
+-- what the postcondition gives.
 use mathlib.Core.Path.{_≡_, refl}
 use Prim.Native.Nat.{ℕ, _<_, _^_}
 use mathlib.Core.Bool.{Bool, false, cond}
@@ -89,7 +90,8 @@ module _ {M : Type 1} (𝓤 : URA M) (H : Heap 𝓤) (A : Atoms 𝓤) (at-mem : 
     goes-no-best =
         qed W [] ∵ nothing ! $ nothing ! $ join ! $ frame ! $ done !
 
-    pub goes-better-of : (p : Best) (pv : Val) (h : Record) (hv : Val) (i : ℕ) → Is B.the-row p (pv ∷ []) → Is R.the-row h (hv ∷ []) → i < 2 ^ 64 → ent 𝓤 (emp 𝓤) (BetterOf .pre (to-better-of p pv h hv i))
+    pub goes-better-of : (p : Best) (pv : Val) (h : Record) (hv : Val) (i : ℕ) → Is B.the-row p (pv ∷ []) → Is R.the-row h (hv ∷ []) → i < 2 ^ 64
+        → ent 𝓤 (emp 𝓤) (BetterOf .pre (to-better-of p pv h hv i))
     goes-better-of p pv h hv i p-is h-is i-is =
         qed W [] ∵ nothing ! $
         owned ! usize (Is usize) (uint-makes 𝓤 H A W w64) i (vint w64 i ∷ []) (refl, i-is) $ fjoin ! $
@@ -102,7 +104,8 @@ module _ {M : Type 1} (𝓤 : URA M) (H : Heap 𝓤) (A : Atoms 𝓤) (at-mem : 
         owned ! u64 (Is u64) (uint-makes 𝓤 H A W w64) c (vint w64 c ∷ []) (refl, c-is) $ fjoin ! $
         owned ! usize (Is usize) (uint-makes 𝓤 H A W w64) n (vint w64 n ∷ []) (refl, n-is) $ fjoin ! $ nothing ! $ join ! $ frame ! $ done !
 
-    pub goes-sound-on : (p : Bool) (pv : Val) (h : Record) (hv : Val) (c : ℕ) → Is bool p (pv ∷ []) → Is R.the-row h (hv ∷ []) → c < 2 ^ 64 → ent 𝓤 (emp 𝓤) (SoundOn .pre (to-sound-on p pv h hv c))
+    pub goes-sound-on : (p : Bool) (pv : Val) (h : Record) (hv : Val) (c : ℕ) → Is bool p (pv ∷ []) → Is R.the-row h (hv ∷ []) → c < 2 ^ 64
+        → ent 𝓤 (emp 𝓤) (SoundOn .pre (to-sound-on p pv h hv c))
     goes-sound-on p pv h hv c p-is h-is c-is =
         qed W [] ∵ nothing ! $
         owned ! u64 (Is u64) (uint-makes 𝓤 H A W w64) c (vint w64 c ∷ []) (refl, c-is) $ fjoin ! $
@@ -116,38 +119,53 @@ module _ {M : Type 1} (𝓤 : URA M) (H : Heap 𝓤) (A : Atoms 𝓤) (at-mem : 
     abbrev row-shared : (ys : List Record) (b o : ℕ) → Room R.the-row (length ys) → Loan 𝓤 H A (Unit {0})
     row-shared = shared-row 𝓤 H A W R.the-row
 
-    pub goes-expire-in : (h : Record) (b o : ℕ) (t : ℕ) → t < 2 ^ 64 → (ν : ℕ) (δ : GName) → ent 𝓤 (sep 𝓤 (A .lft (ν ∷ []) fullShare) (sem 𝓤 H A (one-lent h b o .own ν δ))) (ExpireIn .pre (to-expire-in h b o t ν δ))
+    pub goes-expire-in : (h : Record) (b o : ℕ) (t : ℕ) → t < 2 ^ 64 → (ν : ℕ) (δ : GName)
+        → ent 𝓤 (sep 𝓤 (A .lft (ν ∷ []) fullShare) (sem 𝓤 H A (one-lent h b o .own ν δ))) (ExpireIn .pre (to-expire-in h b o t ν δ))
     goes-expire-in h b o t t-is ν δ =
         qed W (‵ (flft (ν ∷ []) fullShare) ∷ ‵ (one-lent h b o .own ν δ) ∷ []) ∵ nothing ! $ move ! (1 ∷ 0 ∷ []) $ join ! $
-        nothing ! $ owned ! u64 (Is u64) (uint-makes 𝓤 H A W w64) t (vint w64 t ∷ []) (refl, t-is) $ fjoin ! $ move ! (2 ∷ 0 ∷ []) $ fjoin ! $ move ! (1 ∷ 0 ∷ []) $ join ! $ frame ! $ done !
+        nothing ! $ owned ! u64 (Is u64) (uint-makes 𝓤 H A W w64) t (vint w64 t ∷ []) (refl, t-is) $ fjoin ! $ move ! (2 ∷ 0 ∷ []) $ fjoin ! $
+        move ! (1 ∷ 0 ∷ []) $ join ! $ frame ! $ done !
 
-    pub goes-choose-in : (ys : List Record) (b o : ℕ) (room : Room R.the-row (length ys)) (ν : ℕ) (δ : GName) → ent 𝓤 (sep 𝓤 (A .lft (ν ∷ []) fullShare) (sem 𝓤 H A (row-shared ys b o room .own ν δ))) (ChooseIn .pre (to-choose-in ys b o ν δ))
+    pub goes-choose-in : (ys : List Record) (b o : ℕ) (room : Room R.the-row (length ys)) (ν : ℕ) (δ : GName)
+        → ent 𝓤 (sep 𝓤 (A .lft (ν ∷ []) fullShare) (sem 𝓤 H A (row-shared ys b o room .own ν δ))) (ChooseIn .pre (to-choose-in ys b o ν δ))
     goes-choose-in ys b o room ν δ =
-        qed W (‵ (flft (ν ∷ []) fullShare) ∷ ‵ (row-shared ys b o room .own ν δ) ∷ []) ∵ nothing ! $ move ! (1 ∷ 0 ∷ []) $ join ! $ nothing ! $ move ! (2 ∷ 0 ∷ []) $ fjoin ! $ move ! (1 ∷ 0 ∷ []) $ join ! $ frame ! $ done !
+        qed W (‵ (flft (ν ∷ []) fullShare) ∷ ‵ (row-shared ys b o room .own ν δ) ∷ []) ∵ nothing ! $ move ! (1 ∷ 0 ∷ []) $ join ! $ nothing ! $
+        move ! (2 ∷ 0 ∷ []) $ fjoin ! $ move ! (1 ∷ 0 ∷ []) $ join ! $ frame ! $ done !
 
     -- ---- what it gives
     pub no-best-gives : Gives 𝓤 H A NoBest to-no-best B.the-row (λ r. r ≡ none)
     no-best-gives w = taken 𝓤 H A W B.the-row (λ r. r ≡ none) (ensured 𝓤 H A no-best.ended (no-best.clauses 𝓤 H A at-mem run) tt tt tt) w
         (λ r. exE 𝓤 _ (λ ws. snd∗ 𝓤 (sem 𝓤 H A (lasts no-best.ended tt tt ws)) (fact 𝓤 (r ≡ none))))
 
-    pub better-of-gives : (p : Best) (pv : Val) (h : Record) (hv : Val) (i : ℕ) → Gives 𝓤 H A BetterOf (to-better-of p pv h hv i) B.the-row (λ r. r ≡ better p h i)
-    better-of-gives p pv h hv i w = taken 𝓤 H A W B.the-row (λ r. r ≡ better p h i) (ensured 𝓤 H A better-of.ended (better-of.clauses 𝓤 H A at-mem run) tt (p, (h, (i, tt))) tt) w
+    pub better-of-gives : (p : Best) (pv : Val) (h : Record) (hv : Val) (i : ℕ)
+        → Gives 𝓤 H A BetterOf (to-better-of p pv h hv i) B.the-row (λ r. r ≡ better p h i)
+    better-of-gives p pv h hv i w =
+        taken 𝓤 H A W B.the-row (λ r. r ≡ better p h i) (ensured 𝓤 H A better-of.ended (better-of.clauses 𝓤 H A at-mem run) tt (p, (h, (i, tt))) tt) w
         (λ r. exE 𝓤 _ (λ ws. snd∗ 𝓤 (sem 𝓤 H A (lasts better-of.ended tt (p, (h, (i, tt))) ws)) (fact 𝓤 (r ≡ better p h i))))
 
     pub admits-gives : (n : ℕ) (c : ℕ) → Gives 𝓤 H A Admits (to-admits n c) bool (λ r. r ≡ admitted n c)
     admits-gives n c w = taken 𝓤 H A W bool (λ r. r ≡ admitted n c) (ensured 𝓤 H A admits.ended (admits.clauses 𝓤 H A at-mem run) tt (n, (c, tt)) tt) w
         (λ r. exE 𝓤 _ (λ ws. snd∗ 𝓤 (sem 𝓤 H A (lasts admits.ended tt (n, (c, tt)) ws)) (fact 𝓤 (r ≡ admitted n c))))
 
-    pub sound-on-gives : (p : Bool) (pv : Val) (h : Record) (hv : Val) (c : ℕ) → Gives 𝓤 H A SoundOn (to-sound-on p pv h hv c) bool (λ r. r ≡ cond p (soundHolds h c) false)
-    sound-on-gives p pv h hv c w = taken 𝓤 H A W bool (λ r. r ≡ cond p (soundHolds h c) false) (ensured 𝓤 H A sound-on.ended (sound-on.clauses 𝓤 H A at-mem run) tt (p, (h, (c, tt))) tt) w
+    pub sound-on-gives : (p : Bool) (pv : Val) (h : Record) (hv : Val) (c : ℕ)
+        → Gives 𝓤 H A SoundOn (to-sound-on p pv h hv c) bool (λ r. r ≡ cond p (soundHolds h c) false)
+    sound-on-gives p pv h hv c w =
+        taken 𝓤 H A W bool (λ r. r ≡ cond p (soundHolds h c) false) (ensured 𝓤 H A sound-on.ended (sound-on.clauses 𝓤 H A at-mem run) tt (p, (h, (c, tt))) tt) w
         (λ r. exE 𝓤 _ (λ ws. snd∗ 𝓤 (sem 𝓤 H A (lasts sound-on.ended tt (p, (h, (c, tt))) ws)) (fact 𝓤 (r ≡ cond p (soundHolds h c) false))))
 
     pub expire-in-gives : (h : Record) (b o : ℕ) (t : ℕ) → GivesBack 𝓤 H A (one-lent h b o) ExpireIn (to-expire-in h b o t) unit (λ _ z. z ≡ expired h t)
-    expire-in-gives h b o t ν δ w = returned 𝓤 H A W ν unit (one-lent h b o .last δ) (λ _ z. z ≡ expired h t) (ensured 𝓤 H A expire-in.ended (expire-in.clauses 𝓤 H A at-mem run) (ν ∷ [], tt) (under δ h b o, (t, tt)) tt) w
-        (λ _. exE 𝓤 _ (λ ws. qed W (‵ (lasts expire-in.ended (ν ∷ [], tt) (under δ h b o, (t, tt)) ws) ∷ raw (fact 𝓤 (ws .0 ≡ expired h t)) ∷ []) ∵ fsplit ! $ keep ! (0 ∷ 2 ∷ []) $
+    expire-in-gives h b o t ν δ w =
+        returned 𝓤 H A W ν unit (one-lent h b o .last δ) (λ _ z. z ≡ expired h t)
+        (ensured 𝓤 H A expire-in.ended (expire-in.clauses 𝓤 H A at-mem run) (ν ∷ [], tt) (under δ h b o, (t, tt)) tt) w
+        (λ _. exE 𝓤 _ (λ ws. qed W (‵ (lasts expire-in.ended (ν ∷ [], tt) (under δ h b o, (t, tt)) ws) ∷ raw (fact 𝓤 (ws .0 ≡ expired h t)) ∷ []) ∵
+        fsplit ! $ keep ! (0 ∷ 2 ∷ []) $
         by ! (told 𝓤 H A W (one-lent h b o .last δ) (λ z. z ≡ expired h t) (λ z. z ≡ expired h t) (ws .0) (λ p. p))))
 
-    pub choose-in-gives : (ys : List Record) (b o : ℕ) (room : Room R.the-row (length ys)) → GivesBack 𝓤 H A (row-shared ys b o room) ChooseIn (to-choose-in ys b o) B.the-row (λ r _. r ≡ bestTo ys (length ys))
-    choose-in-gives ys b o room ν δ w = returned 𝓤 H A W ν B.the-row (λ _. ftrue) (λ r _. r ≡ bestTo ys (length ys)) (ensured 𝓤 H A choose-in.ended (choose-in.clauses 𝓤 H A at-mem run) (ν ∷ [], tt) (under δ ys b o, tt) tt) w
-        (λ r. exE 𝓤 _ (λ ws. qed W (‵ (lasts choose-in.ended (ν ∷ [], tt) (under δ ys b o, tt) ws) ∷ raw (fact 𝓤 (r ≡ bestTo ys (length ys))) ∷ []) ∵ move ! (1 ∷ []) $ keep ! (0 ∷ []) $ nothing ! $
+    pub choose-in-gives : (ys : List Record) (b o : ℕ) (room : Room R.the-row (length ys))
+        → GivesBack 𝓤 H A (row-shared ys b o room) ChooseIn (to-choose-in ys b o) B.the-row (λ r _. r ≡ bestTo ys (length ys))
+    choose-in-gives ys b o room ν δ w =
+        returned 𝓤 H A W ν B.the-row (λ _. ftrue) (λ r _. r ≡ bestTo ys (length ys))
+        (ensured 𝓤 H A choose-in.ended (choose-in.clauses 𝓤 H A at-mem run) (ν ∷ [], tt) (under δ ys b o, tt) tt) w
+        (λ r. exE 𝓤 _ (λ ws. qed W (‵ (lasts choose-in.ended (ν ∷ [], tt) (under δ ys b o, tt) ws) ∷ raw (fact 𝓤 (r ≡ bestTo ys (length ys))) ∷ []) ∵
+        move ! (1 ∷ []) $ keep ! (0 ∷ []) $ nothing ! $
         by ! (told 𝓤 H A W (λ _. ftrue) (λ _. r ≡ bestTo ys (length ys)) (λ _. r ≡ bestTo ys (length ys)) tt (λ p. p))))

@@ -1,4 +1,5 @@
--- The choice over a lent row is the least open job of the row, whatever its length; over the tasks of a state it is the state's own choice, since a record past them is never looked at.
+-- The choice over a lent row is its least open job, whatever its length, and over the tasks of a state it is the state's: no record past the tasks is looked
+-- at.
 use Prim.Native.Nat.{ℕ, zero, suc, min, _≤_, _<_}
 use mathlib.Core.Path.{_≡_, refl, sym, _∙_}
 use mathlib.Core.Bool.{true, false}
@@ -23,7 +24,8 @@ pub row-least : (l : List Record) → Found l (length l) (bestTo l (length l))
 row-least l = best-is l (length l)
 
 -- the same in the rules' words, D being a number of 32 bits as in every record
-pub row-chosen : (l : List Record) → ((i : ℕ) → i < length l → getD l i noRecord .task .d < 4294967296) → bestTo l (length l) .found ≡ true → LeastIn l (bestTo l (length l) .at)
+pub row-chosen : (l : List Record) → ((i : ℕ) → i < length l → getD l i noRecord .task .d < 4294967296) → bestTo l (length l) .found ≡ true
+    → LeastIn l (bestTo l (length l) .at)
 row-chosen l small e = go (bestTo l (length l)) (row-least l) e
   where
     go : (b : Best) → Found l (length l) b → b .found ≡ true → LeastIn l (b .at)

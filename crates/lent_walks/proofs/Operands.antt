@@ -1,4 +1,5 @@
--- An operand that the code may choose, a local or a constant, is read off the code: which it is, the facts that follow have to bear out. So another operand there is refused at a fact, and not for the walk's form.
+-- Which local or constant a call is handed is read off the code, and the facts that follow have to bear it out: so a wrong one is refused at a fact, and not
+-- because the walk no longer fits.
 use mathlib.Core.Path.{_≡_}
 use Prim.Native.Nat.{ℕ, _^_}
 use mathlib.Core.Bool.{Bool, true, false}
@@ -96,7 +97,8 @@ module _ {M : Type 1} {𝓤 : URA M} {H : Heap 𝓤} {A : Atoms 𝓤} {K : Type 
   a-bool t at bs opdUnit r e = absurd r
   a-bool t at bs (ptrConst n) r e = absurd r
 
-  a-number : K → (at : ℕ → ℕ) (ns : List ℕ) (x : Operand) → Numbers x → Stands 𝓤 H A Γ E at (vint w64 (numberOf ns x)) x → Opd K W Γ E x (vint w64 (numberOf ns x))
+  a-number : K → (at : ℕ → ℕ) (ns : List ℕ) (x : Operand) → Numbers x → Stands 𝓤 H A Γ E at (vint w64 (numberOf ns x)) x
+      → Opd K W Γ E x (vint w64 (numberOf ns x))
   a-number t at ns (copy (place k [])) r e = load t (from t (stop t)) (look t (at k) e)
   a-number t at ns (copy (place k (s ∷ ss))) r e = absurd r
   a-number t at ns (int w8 n) r e = absurd r
@@ -115,5 +117,6 @@ module _ {M : Type 1} {𝓤 : URA M} {H : Heap 𝓤} {A : Atoms 𝓤} {K : Type 
   pub reads-bool : K → (at : ℕ → ℕ) (bs : List Bool) {x : Operand} → Bools x → Stands 𝓤 H A Γ E at (vbool (boolOf bs x)) x → Opd K W Γ E x (vbool (boolOf bs x))
   reads-bool t at bs {x} r e = a-bool t at bs x r e
 
-  pub reads-number : K → (at : ℕ → ℕ) (ns : List ℕ) {x : Operand} → Numbers x → Stands 𝓤 H A Γ E at (vint w64 (numberOf ns x)) x → Opd K W Γ E x (vint w64 (numberOf ns x))
+  pub reads-number : K → (at : ℕ → ℕ) (ns : List ℕ) {x : Operand} → Numbers x → Stands 𝓤 H A Γ E at (vint w64 (numberOf ns x)) x
+      → Opd K W Γ E x (vint w64 (numberOf ns x))
   reads-number t at ns {x} r e = a-number t at ns x r e

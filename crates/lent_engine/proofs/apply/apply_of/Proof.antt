@@ -1,4 +1,4 @@
--- `apply_of` meets its contract: a state that counts more than 16 tasks is not sound, and any other has a place for each task that it counts.
+-- `apply::apply_of` meets its contract: a state that counts more than 16 tasks is not sound, and any other has a place for each task that it counts.
 use borrow.Author.Needs.{needs}
 use Rattle.lent_engine.proofs.Fronts.{over-most}
 use Rattle.lent_engine.proofs.apply.apply_of.Statement.{statement}

@@ -1,5 +1,5 @@
--- `choose_in` meets its contract: a walk of its MIR, by hand. The borrow is looked into once, before the loop; a turn copies one record out of the row and calls `better_of` on it; after the loop the borrow is shut.
--- The invariant: the local `best` holds the best of the first i records.
+-- `choice::choose_in` meets its contract: a walk of its MIR, by hand. The borrow is looked into once, before the loop; a turn copies one record out of the
+-- row and calls `better_of` on it; after the loop the borrow is shut. The invariant: the local `best` holds the best of the first i records.
 use mathlib.Core.Path.{_≡_, refl, sym, ap, _∙_}
 use Prim.Native.Nat.{ℕ, _+_, _*_, _-_, _≤_, _<_, _^_, zero-le}
 use native.Mathlib.Nat.{le-antisymm, lt-of-le-of-lt}
@@ -22,9 +22,11 @@ use prog.Wp.{Heap, Out, Env, afterSeq, afterBlock, afterTurn, Calls, Loops, Wp, 
 use ghost.Atoms.{Atoms}
 use contract.Monad.{Fun}
 use contract.Running.{givenOf, tables, tablesOf}
-use types.Kit.{Given, Item, ‵, runs, anyQ, atRet, Sq, _⊛_, ⋆, _$_, _∵_, !, qed, by, move, keep, drop, use1, split, join, rewrite, fsplit, fjoin, suffices, frame, done}
+use types.Kit.{Given, Item, ‵, runs, anyQ, atRet, Sq, _⊛_, ⋆, _$_, _∵_, !, qed, by, move, keep, drop, use1, split, join, rewrite, fsplit, fjoin, suffices}
+use types.Kit.{frame, done}
 use types.Part.{whole, sub, look-in}
-use types.Run.{look, look-raw, init, store, forget, stop, hop, fld, from, load, lit, of-opd, bin, and-then, no-more, land, assigns, assigns-last, first, blocks, returns, enter, alloc1, alloc0, params1, pass1, pass0, free1, free0, exec, Below, again, loops}
+use types.Run.{look, look-raw, init, store, forget, stop, hop, fld, from, load, lit, of-opd, bin, and-then, no-more, land, assigns, assigns-last, first, blocks}
+use types.Run.{returns, enter, alloc1, alloc0, params1, pass1, pass0, free1, free0, exec, Below, again, loops}
 use types.Share.{arr-parts}
 use sound.WpLaws.{FmC, fmOf, WpFn-mono}
 use denote.RattleType.{owns}
@@ -56,12 +58,12 @@ use Rattle.task_records.proofs.Record.Laws as R′
 use Rattle.state_choice.proofs.Best as B
 use Rattle.state_choice.proofs.Best.Laws as B′
 use Rattle.lent_records.proofs.choice.no_best.Symbol as no-best-def
-use Rattle.lent_records.proofs.choice.no_best.Symbol.{name as #lent-rows·choice·no-best}
+use Rattle.lent_records.proofs.choice.no_best.Symbol.{name as #lent-records·choice·no-best}
 use Rattle.lent_records.proofs.choice.no_best.Met as no-best-thm
 use Rattle.state_choice.proofs.better_of.Symbol as better-of-def
-use Rattle.state_choice.proofs.better_of.Symbol.{name as #choices·better-of}
+use Rattle.state_choice.proofs.better_of.Symbol.{name as #state-choice·better-of}
 use Rattle.state_choice.proofs.better_of.Met as better-of-thm
-use Rattle.lent_records.proofs.choice.choose_in.Key.{name as #lent-rows·choice·choose-in}
+use Rattle.lent_records.proofs.choice.choose_in.Key.{name as #lent-records·choice·choose-in}
 use Rattle.lent_records.proofs.choice.choose_in as choose-in
 use Rattle.lent_records.proofs.choice.choose_in.Statement as stated
 use Rattle.lent_records.proofs.choice.choose_in.Code as code
@@ -93,7 +95,8 @@ none-yet : (ys : List Record) (r : Best) → r ≡ none → r ≡ bestTo ys 0
 unfolding bestTo
 none-yet ys r e = e
 
-module _ {M : Type 1} (𝓤 : URA M) (H : Heap 𝓤) (A : Atoms 𝓤) (W : Given 𝓤 H A) (at-mem : Memory → SProp 𝓤) (run : Routine → Fun 𝓤) (κ : Lft) (q : Share) (b o : ℕ) (γ : GName) (ys : List Record) where
+module _ {M : Type 1} (𝓤 : URA M) (H : Heap 𝓤) (A : Atoms 𝓤) (W : Given 𝓤 H A) (at-mem : Memory → SProp 𝓤) (run : Routine → Fun 𝓤) (κ : Lft) (q : Share)
+    (b o : ℕ) (γ : GName) (ys : List Record) where
   abbrev n : ℕ
   n = length ys
 
@@ -112,8 +115,10 @@ module _ {M : Type 1} (𝓤 : URA M) (H : Heap 𝓤) (A : Atoms 𝓤) (W : Given
   exits : (r : Best) (v : Val) → Is B.the-row r (v ∷ []) → r ≡ bestTo ys (length ys) → ent 𝓤 (⋆ 𝓤 H A (‵ (flft κ q) ∷ ‵ Own ∷ [])) (Post v)
   exits r v is e =
       qed W (‵ (flft κ q) ∷ ‵ Own ∷ []) ∵
-      suffices ! _ (ends-at 𝓤 H A choose-in.ended stayed (choose-in.clauses 𝓤 H A at-mem run) W (((κ, tt), (q, tt), tt, (s, tt), (sv ∷ [], tt)), tt) v r (tt, tt) (tt, tt)) $ says ! e $
-      nothing ! $ move ! (1 ∷ 0 ∷ []) $ join ! $ frame ! $ nothing ! $ move ! (1 ∷ 0 ∷ []) $ fjoin ! $ frame ! $ owned ! B.the-row (Is B.the-row) (LL.makes B.the-type B′.the-plain 𝓤 H A) r (v ∷ []) is $ done !
+      suffices ! _ (ends-at 𝓤 H A choose-in.ended stayed (choose-in.clauses 𝓤 H A at-mem run) W (((κ, tt), (q, tt), tt, (s, tt), (sv ∷ [], tt)), tt) v r
+      (tt, tt) (tt, tt)) $ says ! e $
+      nothing ! $ move ! (1 ∷ 0 ∷ []) $ join ! $ frame ! $ nothing ! $ move ! (1 ∷ 0 ∷ []) $ fjoin ! $ frame ! $
+      owned ! B.the-row (Is B.the-row) (LL.makes B.the-type B′.the-plain 𝓤 H A) r (v ∷ []) is $ done !
 
   -- where a turn begins: i records are passed, and `best`, with the machine value v, is the best of them
   record State : Type 0 where
@@ -130,7 +135,8 @@ module _ {M : Type 1} (𝓤 : URA M) (H : Heap 𝓤) (A : Atoms 𝓤) (W : Given
   Nearer-wf : WellFounded Nearer
   Nearer-wf = InvImage·wf (λ (t : State). n - t .i) (Nat·lt-wfRel .wf)
 
-  module _ (𝓣 : Tables 𝓤 H) (known-no-best : Triple 𝓤 (𝓣 .C #lent-rows·choice·no-best) (NoBest 𝓤 H A at-mem run)) (known-better-of : Triple 𝓤 (𝓣 .C #choices·better-of) (BetterOf 𝓤 H A at-mem run)) (room : Room R.the-row n) where
+  module _ (𝓣 : Tables 𝓤 H) (known-no-best : Triple 𝓤 (𝓣 .C #lent-records·choice·no-best) (NoBest 𝓤 H A at-mem run))
+      (known-better-of : Triple 𝓤 (𝓣 .C #state-choice·better-of) (BetterOf 𝓤 H A at-mem run)) (room : Room R.the-row n) where
     abbrev C : Calls 𝓤 H
     C = 𝓣 .C
 
@@ -147,8 +153,10 @@ module _ {M : Type 1} (𝓤 : URA M) (H : Heap 𝓤) (A : Atoms 𝓤) (W : Given
       -- [the row; each local from the last, `L k`; the open borrow, L 0 + 2; what the slice owns]
       abbrev At : State → List (Item 𝓤)
       At t =
-          ‵ (row R.the-row q′ ys b o) ∷ ‵ (froom R′.mir l₇ 0) ∷ ‵ (fdies R′.mir l₇) ∷ ‵ (froom tyPtr l₆ 0) ∷ ‵ (fdies tyPtr l₆) ∷ ‵ (froom tyBool l₅ 0) ∷ ‵ (fdies tyBool l₅) ∷ ‵ (froom word l₄ 0) ∷ ‵ (fdies word l₄)
-          ∷ ‵ (fat fullShare word l₃ 0 (vint w64 (t .i))) ∷ ‵ (fdies word l₃) ∷ ‵ (fat fullShare B′.mir l₂ 0 (t .v)) ∷ ‵ (fdies B′.mir l₂) ∷ ‵ (fat fullShare rowTy l₁ 0 sv) ∷ ‵ (fdies rowTy l₁) ∷ ‵ (froom B′.mir l₀ 0) ∷ ‵ (fdies B′.mir l₀)
+          ‵ (row R.the-row q′ ys b o) ∷ ‵ (froom R′.mir l₇ 0) ∷ ‵ (fdies R′.mir l₇) ∷ ‵ (froom tyPtr l₆ 0) ∷ ‵ (fdies tyPtr l₆) ∷ ‵ (froom tyBool l₅ 0)
+          ∷ ‵ (fdies tyBool l₅) ∷ ‵ (froom word l₄ 0) ∷ ‵ (fdies word l₄)
+          ∷ ‵ (fat fullShare word l₃ 0 (vint w64 (t .i))) ∷ ‵ (fdies word l₃) ∷ ‵ (fat fullShare B′.mir l₂ 0 (t .v)) ∷ ‵ (fdies B′.mir l₂)
+          ∷ ‵ (fat fullShare rowTy l₁ 0 sv) ∷ ‵ (fdies rowTy l₁) ∷ ‵ (froom B′.mir l₀ 0) ∷ ‵ (fdies B′.mir l₀)
           ∷ ‵ (fobor κ q (arr-parts (shares R.the-row) n .part q′ ys b o)) ∷ ‵ Own ∷ []
 
       -- a turn's postcondition: it ends nearer to the end, or the loop is left and the rest of the body runs
@@ -158,32 +166,48 @@ module _ {M : Type 1} (𝓤 : URA M) (H : Heap 𝓤) (A : Atoms 𝓤) (W : Given
       turns : (t : State) → Sq W (At t) (runs C Λ En body.turn-1 (anyQ (Turned t)))
       unfolding afterTurn
       turns t =
-          assigns ! (of-opd ! (load ! (from ! (fld ! refl (stop !))) (look-in ! (L 1) (sub ! 1 refl (whole !))))) (from ! (stop !)) (init ! (L 4) refl (tt, record { fits = room .0 })) $
-          assigns ! (bin ! (load ! (from ! (stop !)) (look ! (L 3) refl)) (load ! (from ! (stop !)) (look ! (L 4) refl)) tt) (from ! (stop !)) (init ! (L 5) refl (tt, tt)) $
+          assigns ! (of-opd ! (load ! (from ! (fld ! refl (stop !))) (look-in ! (L 1) (sub ! 1 refl (whole !))))) (from ! (stop !))
+          (init ! (L 4) refl (tt, record { fits = room .0 })) $
+          assigns ! (bin ! (load ! (from ! (stop !)) (look ! (L 3) refl)) (load ! (from ! (stop !)) (look ! (L 4) refl)) tt) (from ! (stop !))
+          (init ! (L 5) refl (tt, tt)) $
           tests ! (load ! (from ! (stop !)) (look ! (L 5) refl))
           (λ less.
           -- the place of element i, and the record that lies there
-          assigns ! (bin ! (load ! (from ! (stop !)) (look ! (L 3) refl)) (lit ! tt) (record { fits = within less })) (from ! (stop !)) (store ! (L 4) refl (tt, record { fits = within less })) $
-          assigns ! (bin ! (load ! (from ! (fld ! refl (stop !))) (look-in ! (L 1) (sub ! 0 refl (whole !)))) (load ! (from ! (stop !)) (look ! (L 4) refl)) tt) (from ! (stop !)) (init ! (L 6) refl (tt, tt)) $
+          assigns ! (bin ! (load ! (from ! (stop !)) (look ! (L 3) refl)) (lit ! tt) (record { fits = within less })) (from ! (stop !))
+          (store ! (L 4) refl (tt, record { fits = within less })) $
+          assigns ! (bin ! (load ! (from ! (fld ! refl (stop !))) (look-in ! (L 1) (sub ! 0 refl (whole !)))) (load ! (from ! (stop !)) (look ! (L 4) refl)) tt)
+          (from ! (stop !)) (init ! (L 6) refl (tt, tt)) $
           rewrite ! (L 6) (λ (p : ℕ). ‵ (fat fullShare tyPtr l₆ 0 (vptr b p))) (sym (place-is (mem R.the-row .size) o (t .i))) refl $
-          elem-out ! R.the-row (Is R.the-row) (shows 𝓤 H A R.the-row) record-vals (LL.tells R.the-type R′.the-laws) q′ ys (t .i) noRecord b o (ltb→lt (t .i) n less) (λ g.
+          elem-out ! R.the-row (Is R.the-row) (shows 𝓤 H A R.the-row) record-vals (LL.tells R.the-type R′.the-laws) q′ ys (t .i) noRecord b o
+          (ltb→lt (t .i) n less) (λ g.
           -- [row[i]; what it owns; the others; the locals, 2 + L k; …]
-          assigns ! (of-opd ! (load ! (from ! (hop ! (look ! (2 + L 6) refl) (stop !))) (look-raw ! 0 {τ = R′.mir} refl))) (from ! (stop !)) (init ! (2 + L 7) refl (LL.lawful R.the-type R′.the-laws 𝓤 H A W .typed of _ g .0)) $
+          assigns ! (of-opd ! (load ! (from ! (hop ! (look ! (2 + L 6) refl) (stop !))) (look-raw ! 0 {τ = R′.mir} refl))) (from ! (stop !))
+          (init ! (2 + L 7) refl (LL.lawful R.the-type R′.the-laws 𝓤 H A W .typed of _ g .0)) $
           elem-back ! R.the-row q′ ys (t .i) noRecord (record-vals of) b o (ltb→lt (t .i) n less) $
           calls-read ! fm (BetterOf 𝓤 H A at-mem run) known-better-of (to-better-of 𝓤 H A at-mem run (t .best) (t .v) of (record-val of) _)
-          (and-then ! (load ! (from ! (stop !)) (look ! (1 + L 2) refl)) (and-then ! (load ! (from ! (stop !)) (look ! (1 + L 7) refl)) (and-then ! (reads-number ! (λ k. 1 + L k) (0 ∷ 0 ∷ 0 ∷ t .i ∷ n ∷ []) tt refl) (no-more !))))
-          (goes-better-of 𝓤 H A at-mem run W (t .best) (t .v) of (record-val of) _ (t .is) g (omega (arith, fits))) B.the-row (λ r. r ≡ better (t .best) of _) (better-of-gives 𝓤 H A at-mem run W (t .best) (t .v) of (record-val of) _) (λ v′ r e is.
+          (and-then ! (load ! (from ! (stop !)) (look ! (1 + L 2) refl))
+          (and-then ! (load ! (from ! (stop !)) (look ! (1 + L 7) refl))
+          (and-then ! (reads-number ! (λ k. 1 + L k) (0 ∷ 0 ∷ 0 ∷ t .i ∷ n ∷ []) tt refl) (no-more !))))
+          (goes-better-of 𝓤 H A at-mem run W (t .best) (t .v) of (record-val of) _ (t .is) g (omega (arith, fits))) B.the-row (λ r. r ≡ better (t .best) of _)
+          (better-of-gives 𝓤 H A at-mem run W (t .best) (t .v) of (record-val of) _) (λ v′ r e is.
           land ! (from ! (stop !)) (store ! (L 2) refl (LL.lawful B.the-type B′.the-laws 𝓤 H A W .typed r _ is .0)) $
-          assigns-last ! (bin ! (load ! (from ! (stop !)) (look ! (L 3) refl)) (lit ! tt) (record { fits = next-fits less })) (from ! (stop !)) (store ! (L 3) refl (tt, record { fits = next-fits less })) $
+          assigns-last ! (bin ! (load ! (from ! (stop !)) (look ! (L 3) refl)) (lit ! tt) (record { fits = next-fits less })) (from ! (stop !))
+          (store ! (L 3) refl (tt, record { fits = next-fits less })) $
           forget ! (L 7) refl $ forget ! (L 6) refl $ forget ! (L 5) refl $ forget ! (L 4) refl $
-          again ! Nearer At t (record { i = t .i + 1; best = r; v = v′; le = add-one-le (ltb→lt (t .i) n less); is = is; said = next-best ys (t .i) (t .best) r (t .said) e }) (add-one-dec n (t .i) (ltb→lt (t .i) n less)))))
+          again ! Nearer At t
+          (record { i = t .i + 1; best = r; v = v′; le = add-one-le (ltb→lt (t .i) n less); is = is; said = next-best ys (t .i) (t .best) r (t .said) e })
+          (add-one-dec n (t .i) (ltb→lt (t .i) n less)))))
           (λ over. exec ! C Λ En body.t-4 (atRet En Post) $
-          assigns ! (of-opd ! (load ! (from ! (stop !)) (look ! (L 2) refl))) (from ! (stop !)) (init ! (L 0) refl (LL.lawful B.the-type B′.the-laws 𝓤 H A W .typed (t .best) _ (t .is) .0)) $
+          assigns ! (of-opd ! (load ! (from ! (stop !)) (look ! (L 2) refl))) (from ! (stop !))
+          (init ! (L 0) refl (LL.lawful B.the-type B′.the-laws 𝓤 H A W .typed (t .best) _ (t .is) .0)) $
           move ! (0 ∷ (2 + L 0) ∷ []) $ shuts-slice ! tt R.the-row q′ ys b o $
           -- [the token; each local, `L k`; what the slice owns]
-          returns ! (look ! (L 0) refl) $ forget ! (L 5) refl $ forget ! (L 4) refl $ forget ! (L 3) refl $ forget ! (L 2) refl $ forget ! (L 1) refl $ forget ! (L 0) refl $
-          move ! (15 ∷ 16 ∷ []) $ free1 ! $ move ! (13 ∷ 14 ∷ []) $ free1 ! $ move ! (11 ∷ 12 ∷ []) $ free1 ! $ move ! (9 ∷ 10 ∷ []) $ free1 ! $ move ! (7 ∷ 8 ∷ []) $ free1 ! $ move ! (5 ∷ 6 ∷ []) $ free1 ! $ move ! (3 ∷ 4 ∷ []) $ free1 ! $
-          move ! (1 ∷ 2 ∷ []) $ free1 ! $ free0 ! $ by ! (exits (t .best) (t .v) (t .is) (t .said ∙ ap (bestTo ys) (le-antisymm (t .le) (nltb→le (t .i) n over)))))
+          returns ! (look ! (L 0) refl) $ forget ! (L 5) refl $ forget ! (L 4) refl $ forget ! (L 3) refl $ forget ! (L 2) refl $
+          forget ! (L 1) refl $ forget ! (L 0) refl $
+          move ! (15 ∷ 16 ∷ []) $ free1 ! $ move ! (13 ∷ 14 ∷ []) $ free1 ! $ move ! (11 ∷ 12 ∷ []) $ free1 ! $ move ! (9 ∷ 10 ∷ []) $ free1 ! $
+          move ! (7 ∷ 8 ∷ []) $ free1 ! $ move ! (5 ∷ 6 ∷ []) $ free1 ! $ move ! (3 ∷ 4 ∷ []) $ free1 ! $
+          move ! (1 ∷ 2 ∷ []) $ free1 ! $ free0 ! $
+          by ! (exits (t .best) (t .v) (t .is) (t .said ∙ ap (bestTo ys) (le-antisymm (t .le) (nltb→le (t .i) n over)))))
         where
           of : Record
           of = getD ys (t .i) noRecord
@@ -201,37 +225,48 @@ module _ {M : Type 1} (𝓤 : URA M) (H : Heap 𝓤) (A : Atoms 𝓤) (W : Given
       looped : (t : State) → Sq W (At t) (runs C Λ En body.t-3 (atRet En Post))
       looped t = first ! $ blocks ! $ loops ! 𝓣 Nearer Nearer-wf At turns t
 
-    walk : Is (ShrSlice (named 0) κ R.the-row) s (sv ∷ []) → ent 𝓤 (onEntry 𝓤 H A choose-in.signature (κ, tt) (q, tt) (s, tt) (sv ∷ [], tt)) (WpFn 𝓤 H C Λ code.function (sv ∷ []) Post)
+    walk : Is (ShrSlice (named 0) κ R.the-row) s (sv ∷ [])
+        → ent 𝓤 (onEntry 𝓤 H A choose-in.signature (κ, tt) (q, tt) (s, tt) (sv ∷ [], tt)) (WpFn 𝓤 H C Λ code.function (sv ∷ []) Post)
     walk p =
         qed W ((‵ (flft κ q) ⊛ ‵ ftrue) ∷ ‵ (owns (ShrSlice (named 0) κ R.the-row ∷ []) (s, tt) (sv ∷ [], tt)) ∷ []) ∵ enter ! C Λ code.function (sv ∷ []) _ $
         alloc1 ! (λ l₀. alloc1 ! (λ l₁. alloc1 ! (λ l₂. alloc1 ! (λ l₃. alloc1 ! (λ l₄. alloc1 ! (λ l₅. alloc1 ! (λ l₆. alloc1 ! (λ l₇. alloc0 ! $ params1 ! $
         pass1 ! (init ! (L₀ 1) refl (shr-slice-lawful 𝓤 H A W (named 0) κ R.the-row .typed s (sv ∷ []) p .0)) $ pass0 ! $
         -- [each local from the last, `L₀ k`; the token, L₀ 0 + 2; what the slice owns]
-        calls-plain ! fm (NoBest 𝓤 H A at-mem run) known-no-best (to-no-best 𝓤 H A at-mem run) (goes-no-best 𝓤 H A at-mem run W) B.the-row (λ r. r ≡ none) (no-best-gives 𝓤 H A at-mem run W) (no-more !) (λ v r e is.
+        calls-plain ! fm (NoBest 𝓤 H A at-mem run) known-no-best (to-no-best 𝓤 H A at-mem run) (goes-no-best 𝓤 H A at-mem run W) B.the-row (λ r. r ≡ none)
+        (no-best-gives 𝓤 H A at-mem run W) (no-more !) (λ v r e is.
         land ! (from ! (stop !)) (init ! (L₀ 2) refl (LL.lawful B.the-type B′.the-laws 𝓤 H A W .typed r _ is .0)) $
         assigns ! (of-opd ! (lit ! tt)) (from ! (stop !)) (init ! (L₀ 3) refl (tt, record { fits = lit< tt })) $
         -- what the slice owns is had twice: one is kept for the exit, and the other is looked into
         move ! (17 ∷ []) $ fsplit ! $ use1 W (‵ Own ⊛ ‵ Own) (shr-slice-copy 𝓤 H A W (named 0) κ R.the-row .twice s (sv ∷ [])) $ split ! $
         fsplit ! $ drop ! $ fsplit ! $ drop ! $ move ! (19 ∷ []) $ split ! $ move ! (2 ∷ 0 ∷ []) $
-        looks-slice ! tt R.the-row (Is R.the-row) (shows 𝓤 H A R.the-row) record-vals (LL.tells R.the-type R′.the-laws) (LL.copy R.the-type R′.the-copy 𝓤 H A W) ys b o (λ q′.
+        looks-slice ! tt R.the-row (Is R.the-row) (shows 𝓤 H A R.the-row) record-vals (LL.tells R.the-type R′.the-laws)
+        (LL.copy R.the-type R′.the-copy 𝓤 H A W) ys b o (λ q′.
         -- [the row; the open borrow; the borrow; true; what the slice owns, 4; true; each local from the last, 6 + L₀ k]
         keep ! (0 ∷ 6 ∷ 7 ∷ 8 ∷ 9 ∷ 10 ∷ 11 ∷ 12 ∷ 13 ∷ 14 ∷ 15 ∷ 16 ∷ 17 ∷ 18 ∷ 19 ∷ 20 ∷ 21 ∷ 1 ∷ 4 ∷ []) $
         looped q′ l₀ l₁ l₂ l₃ l₄ l₅ l₆ l₇ (record { i = 0; best = r; v = v; le = zero-le; is = is; said = none-yet ys r e })))))))))))
 
 module _ {M : Type 1} (𝓤 : URA M) (H : Heap 𝓤) (A : Atoms 𝓤) (W : Given 𝓤 H A) (at-mem : Memory → SProp 𝓤) (run : Routine → Fun 𝓤) (𝓣 : Tables 𝓤 H)
-    (known-no-best : Triple 𝓤 (𝓣 .C #lent-rows·choice·no-best) (NoBest 𝓤 H A at-mem run)) (known-better-of : Triple 𝓤 (𝓣 .C #choices·better-of) (BetterOf 𝓤 H A at-mem run)) where
+    (known-no-best : Triple 𝓤 (𝓣 .C #lent-records·choice·no-best) (NoBest 𝓤 H A at-mem run))
+    (known-better-of : Triple 𝓤 (𝓣 .C #state-choice·better-of) (BetterOf 𝓤 H A at-mem run)) where
   choose-in-walks : Walks 𝓤 H A choose-in.ended stayed (WpFn 𝓤 H (𝓣 .C) (𝓣 .Λ) code.function) (choose-in.clauses 𝓤 H A at-mem run)
-  choose-in-walks = walked 𝓤 H A choose-in.ended stayed (choose-in.clauses 𝓤 H A at-mem run) (WpFn 𝓤 H (𝓣 .C) (𝓣 .Λ) code.function) (λ κs. (slice-vals, tt)) (λ κs. (shr-slice-tells (named 0) (κs .0) R.the-row, tt))
-      (λ κs qs bounds a g are. via 𝓤 _ (fst∗ 𝓤 _ (emp 𝓤)) (walk 𝓤 H A W at-mem run (κs .0) (qs .0) (a .0 .ptr .0) (a .0 .ptr .1) (a .0 .name) (a .0 .now) 𝓣 known-no-best known-better-of (are .0 .0 .1) (are .0)))
+  choose-in-walks =
+      walked 𝓤 H A choose-in.ended stayed (choose-in.clauses 𝓤 H A at-mem run) (WpFn 𝓤 H (𝓣 .C) (𝓣 .Λ) code.function) (λ κs. (slice-vals, tt))
+      (λ κs. (shr-slice-tells (named 0) (κs .0) R.the-row, tt))
+      (λ κs qs bounds a g are. via 𝓤 _ (fst∗ 𝓤 _ (emp 𝓤))
+      (walk 𝓤 H A W at-mem run (κs .0) (qs .0) (a .0 .ptr .0) (a .0 .ptr .1) (a .0 .name) (a .0 .now) 𝓣 known-no-best known-better-of (are .0 .0 .1) (are .0)))
 
   choose-in-meets : Meets 𝓤 H A choose-in.signature (WpFn 𝓤 H (𝓣 .C) (𝓣 .Λ) code.function) (choose-in.spec 𝓤 H A at-mem run)
-  choose-in-meets = walk-meets 𝓤 H A choose-in.ended stayed W (goes-none-slice 𝓤 H A W 1 (0 ∷ []) tt (plain (λ _. R.the-row)) yes, tt) (choose-in.clauses 𝓤 H A at-mem run) (WpFn 𝓤 H (𝓣 .C) (𝓣 .Λ) code.function) (WpFn-mono 𝓤 H (W .laws) 𝓣 code.function) choose-in-walks
+  choose-in-meets =
+      walk-meets 𝓤 H A choose-in.ended stayed W (goes-none-slice 𝓤 H A W 1 (0 ∷ []) tt (plain (λ _. R.the-row)) yes, tt) (choose-in.clauses 𝓤 H A at-mem run)
+      (WpFn 𝓤 H (𝓣 .C) (𝓣 .Λ) code.function) (WpFn-mono 𝓤 H (W .laws) 𝓣 code.function) choose-in-walks
 
 pub choose-in-spec : {M : Type 1} → stated.statement M
 unfolding code.routine tablesOf
 choose-in-spec 𝓤 H 𝓜 𝓖 𝓡 =
     entered 𝓤 H (tripleOf 𝓤 H (𝓖 .A) choose-in.signature (choose-in.spec 𝓤 H (𝓖 .A) (𝓜 .mem) (𝓡 .run)))
-    (tables 𝓤 H 𝓜 𝓡 code.env .C) (tables 𝓤 H 𝓜 𝓡 code.env .Λ) #lent-rows·choice·choose-in code.function (code.unfolded 𝓤 H 𝓜 𝓡)
+    (tables 𝓤 H 𝓜 𝓡 code.env .C) (tables 𝓤 H 𝓜 𝓡 code.env .Λ) #lent-records·choice·choose-in code.function (code.unfolded 𝓤 H 𝓜 𝓡)
     (choose-in-meets 𝓤 H (𝓖 .A) (givenOf 𝓤 H 𝓜 𝓖) (𝓜 .mem) (𝓡 .run) (tablesOf 𝓤 H 𝓜 (tables 𝓤 H 𝓜 𝓡 code.env))
-    (cited 𝓤 H (NoBest 𝓤 H (𝓖 .A) (𝓜 .mem) (𝓡 .run)) 𝓜 𝓡 code.env #lent-rows·choice·no-best no-best-def.routine code.calls-lent-rows·choice·no-best (no-best-thm.met 𝓤 H 𝓜 𝓖 𝓡))
-    (cited 𝓤 H (BetterOf 𝓤 H (𝓖 .A) (𝓜 .mem) (𝓡 .run)) 𝓜 𝓡 code.env #choices·better-of better-of-def.routine code.calls-choices·better-of (better-of-thm.met 𝓤 H 𝓜 𝓖 𝓡)))
+    (cited 𝓤 H (NoBest 𝓤 H (𝓖 .A) (𝓜 .mem) (𝓡 .run)) 𝓜 𝓡 code.env #lent-records·choice·no-best no-best-def.routine code.calls-lent-records·choice·no-best
+    (no-best-thm.met 𝓤 H 𝓜 𝓖 𝓡))
+    (cited 𝓤 H (BetterOf 𝓤 H (𝓖 .A) (𝓜 .mem) (𝓡 .run)) 𝓜 𝓡 code.env #state-choice·better-of better-of-def.routine code.calls-state-choice·better-of
+    (better-of-thm.met 𝓤 H 𝓜 𝓖 𝓡)))

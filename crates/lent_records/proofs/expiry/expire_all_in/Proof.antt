@@ -1,5 +1,6 @@
--- `expire_all_in` meets its contract: a walk of its MIR, by hand. The borrow is opened once, before the loop; a turn takes one record out of the row, lends it to `expire_in`, and puts it back as it comes back; after the loop the borrow is closed.
--- The invariant: of the first i records the late ones are closed, and the others are as lent.
+-- `expiry::expire_all_in` meets its contract: a walk of its MIR, by hand. The borrow is opened once, before the loop; a turn takes one record out of the row,
+-- lends it to `expire_in`, and puts it back as it comes back; after the loop the borrow is closed. The invariant: of the first i records the late ones are
+-- closed, and the others are as lent.
 use mathlib.Core.Path.{_≡_, refl, sym, ap, subst, _∙_}
 use Prim.Native.Nat.{ℕ, _+_, _*_, _-_, _≤_, _<_, _^_, zero-le}
 use native.Mathlib.Nat.{le-antisymm, lt-of-le-of-lt}
@@ -22,9 +23,11 @@ use prog.Wp.{Heap, Out, Env, afterSeq, afterBlock, afterTurn, Calls, Loops, Wp, 
 use ghost.Atoms.{Atoms}
 use contract.Monad.{Fun}
 use contract.Running.{givenOf, tables, tablesOf}
-use types.Kit.{Given, Item, ‵, runs, anyQ, atRet, Sq, _⊛_, ⋆, _$_, _∵_, !, qed, by, move, keep, drop, use1, use2, split, join, rewrite, fsplit, fjoin, feqI, suffices, frame, done}
+use types.Kit.{Given, Item, ‵, runs, anyQ, atRet, Sq, _⊛_, ⋆, _$_, _∵_, !, qed, by, move, keep, drop, use1, use2, split, join, rewrite, fsplit, fjoin, feqI}
+use types.Kit.{suffices, frame, done}
 use types.Part.{whole, sub, look-in}
-use types.Run.{look, init, store, forget, stop, hop, fld, from, load, lit, unit-lit, of-opd, bin, addr, and-then, no-more, land, assigns, assigns-last, first, blocks, returns, enter, alloc1, alloc0, params1, pass1, pass0, free1, free0, exec, Below, again, loops}
+use types.Run.{look, init, store, forget, stop, hop, fld, from, load, lit, unit-lit, of-opd, bin, addr, and-then, no-more, land, assigns, assigns-last, first}
+use types.Run.{blocks, returns, enter, alloc1, alloc0, params1, pass1, pass0, free1, free0, exec, Below, again, loops}
 use sound.WpLaws.{FmC, fmOf, WpFn-mono}
 use denote.RattleType.{owns}
 use denote.Shadow.{pureI}
@@ -55,9 +58,9 @@ use Rattle.lent_walks.proofs.Loans.{under, lent-ref, calls-lent-read}
 use Rattle.lent_records.proofs.CalledRow.{ExpireIn, to-expire-in, goes-expire-in, expire-in-gives}
 use Rattle.lent_records.proofs.Expired.{one, none-passed, one-passed}
 use Rattle.lent_records.proofs.closing.expire_in.Symbol as expire-in-def
-use Rattle.lent_records.proofs.closing.expire_in.Symbol.{name as #lent·closing·expire-in}
+use Rattle.lent_records.proofs.closing.expire_in.Symbol.{name as #lent-records·closing·expire-in}
 use Rattle.lent_records.proofs.closing.expire_in.Met as expire-in-thm
-use Rattle.lent_records.proofs.expiry.expire_all_in.Key.{name as #lent-rows·expiry·expire-all-in}
+use Rattle.lent_records.proofs.expiry.expire_all_in.Key.{name as #lent-records·expiry·expire-all-in}
 use Rattle.lent_records.proofs.expiry.expire_all_in as expire-all-in
 use Rattle.lent_records.proofs.expiry.expire_all_in.Statement as stated
 use Rattle.lent_records.proofs.expiry.expire_all_in.Code as code
@@ -83,7 +86,8 @@ L₀ k = 2 * (8 - k)
 abbrev L : ℕ → ℕ
 L k = 1 + L₀ k
 
-module _ {M : Type 1} (𝓤 : URA M) (H : Heap 𝓤) (A : Atoms 𝓤) (W : Given 𝓤 H A) (at-mem : Memory → SProp 𝓤) (run : Routine → Fun 𝓤) (κ : Lft) (q : Share) (b o : ℕ) (γ : GName) (ys : List Record) (t : ℕ)
+module _ {M : Type 1} (𝓤 : URA M) (H : Heap 𝓤) (A : Atoms 𝓤) (W : Given 𝓤 H A) (at-mem : Memory → SProp 𝓤) (run : Routine → Fun 𝓤) (κ : Lft) (q : Share)
+    (b o : ℕ) (γ : GName) (ys : List Record) (t : ℕ)
     (room : Room R.the-row (length ys)) (t-fits : t < 2 ^ 64) where
   abbrev n : ℕ
   n = length ys
@@ -104,12 +108,15 @@ module _ {M : Type 1} (𝓤 : URA M) (H : Heap 𝓤) (A : Atoms 𝓤) (W : Given
   Post = walkOf 𝓤 H A expire-all-in.ended stayed (expire-all-in.clauses 𝓤 H A at-mem run) .post (((κ, tt), (q, tt), tt, a, at), tt)
 
   exits : (zs : List Record) → length zs ≡ n → zs ≡ expiredRow ys t
-      → ent 𝓤 (⋆ 𝓤 H A (‵ (fobs γ (codedHoleys R.the-row .code (heres R.the-row zs))) ∷ ‵ (fbor κ (Held R.the-row (length zs) b o γ)) ∷ ‵ (flft κ q) ∷ [])) (Post vunit)
+      → ent 𝓤 (⋆ 𝓤 H A (‵ (fobs γ (codedHoleys R.the-row .code (heres R.the-row zs))) ∷ ‵ (fbor κ (Held R.the-row (length zs) b o γ)) ∷ ‵ (flft κ q) ∷ []))
+      (Post vunit)
   exits zs len e =
       qed W (‵ (fobs γ (codedHoleys R.the-row .code (heres R.the-row zs))) ∷ ‵ (fbor κ (Held R.the-row (length zs) b o γ)) ∷ ‵ (flft κ q) ∷ []) ∵
-      suffices ! _ (ends-at 𝓤 H A expire-all-in.ended stayed (expire-all-in.clauses 𝓤 H A at-mem run) W (((κ, tt), (q, tt), tt, a, at), tt) vunit tt (zs, (tt, tt)) (len, (tt, tt))) $ says ! e $
+      suffices ! _ (ends-at 𝓤 H A expire-all-in.ended stayed (expire-all-in.clauses 𝓤 H A at-mem run) W (((κ, tt), (q, tt), tt, a, at), tt) vunit tt
+      (zs, (tt, tt)) (len, (tt, tt))) $ says ! e $
       nothing ! $ move ! (3 ∷ 0 ∷ []) $ join ! $ frame ! $
-      fjoin ! $ pureI ! (at-slice R.the-row (under γ zs b o) (sv ∷ [])) (tt, (tt, tt)) (ap (λ (k : ℕ). sliceVal (b, o) k ∷ []) (sym len), subst (Room R.the-row) (sym len) room) $ fjoin ! $
+      fjoin ! $ pureI ! (at-slice R.the-row (under γ zs b o) (sv ∷ [])) (tt, (tt, tt))
+      (ap (λ (k : ℕ). sliceVal (b, o) k ∷ []) (sym len), subst (Room R.the-row) (sym len) room) $ fjoin ! $
       nothing ! $ nothing ! $ fjoin ! $ move ! (1 ∷ 0 ∷ []) $ fjoin ! $ feqI ! (List Val) (vunit ∷ []) (vunit ∷ []) refl $ move ! (1 ∷ 0 ∷ []) $ done !
 
   -- where a turn begins: i records of the row zs are passed
@@ -126,7 +133,7 @@ module _ {M : Type 1} (𝓤 : URA M) (H : Heap 𝓤) (A : Atoms 𝓤) (W : Given
   Nearer-wf : WellFounded Nearer
   Nearer-wf = InvImage·wf (λ (s : State). n - s .i) (Nat·lt-wfRel .wf)
 
-  module _ (𝓣 : Tables 𝓤 H) (known : Triple 𝓤 (𝓣 .C #lent·closing·expire-in) (ExpireIn 𝓤 H A at-mem run)) where
+  module _ (𝓣 : Tables 𝓤 H) (known : Triple 𝓤 (𝓣 .C #lent-records·closing·expire-in) (ExpireIn 𝓤 H A at-mem run)) where
     abbrev C : Calls 𝓤 H
     C = 𝓣 .C
 
@@ -143,10 +150,13 @@ module _ {M : Type 1} (𝓤 : URA M) (H : Heap 𝓤) (A : Atoms 𝓤) (W : Given
       -- [the row; each local from the last, `L k`; the open borrow, L 0 + 2; obs; auth]
       abbrev At : State → List (Item 𝓤)
       At s =
-          ‵ (row R.the-row fullShare (s .zs) b o) ∷ ‵ (froom oneTy l₈ 0) ∷ ‵ (fdies oneTy l₈) ∷ ‵ (froom tyPtr l₇ 0) ∷ ‵ (fdies tyPtr l₇) ∷ ‵ (froom tyUnit l₆ 0) ∷ ‵ (fdies tyUnit l₆) ∷ ‵ (froom tyBool l₅ 0) ∷ ‵ (fdies tyBool l₅)
-          ∷ ‵ (froom word l₄ 0) ∷ ‵ (fdies word l₄) ∷ ‵ (fat fullShare word l₃ 0 (vint w64 (s .i))) ∷ ‵ (fdies word l₃) ∷ ‵ (fat fullShare word l₂ 0 (vint w64 t)) ∷ ‵ (fdies word l₂) ∷ ‵ (fat fullShare rowTy l₁ 0 sv) ∷ ‵ (fdies rowTy l₁)
+          ‵ (row R.the-row fullShare (s .zs) b o) ∷ ‵ (froom oneTy l₈ 0) ∷ ‵ (fdies oneTy l₈) ∷ ‵ (froom tyPtr l₇ 0) ∷ ‵ (fdies tyPtr l₇)
+          ∷ ‵ (froom tyUnit l₆ 0) ∷ ‵ (fdies tyUnit l₆) ∷ ‵ (froom tyBool l₅ 0) ∷ ‵ (fdies tyBool l₅)
+          ∷ ‵ (froom word l₄ 0) ∷ ‵ (fdies word l₄) ∷ ‵ (fat fullShare word l₃ 0 (vint w64 (s .i))) ∷ ‵ (fdies word l₃)
+          ∷ ‵ (fat fullShare word l₂ 0 (vint w64 t)) ∷ ‵ (fdies word l₂) ∷ ‵ (fat fullShare rowTy l₁ 0 sv) ∷ ‵ (fdies rowTy l₁)
           ∷ ‵ (froom tyUnit l₀ 0) ∷ ‵ (fdies tyUnit l₀)
-          ∷ ‵ (fobor κ q (Held R.the-row n b o γ)) ∷ ‵ (fobs γ (codedHoleys R.the-row .code (heres R.the-row ys))) ∷ ‵ (fauth γ (codedHoleys R.the-row .code (heres R.the-row ys))) ∷ []
+          ∷ ‵ (fobor κ q (Held R.the-row n b o γ)) ∷ ‵ (fobs γ (codedHoleys R.the-row .code (heres R.the-row ys)))
+          ∷ ‵ (fauth γ (codedHoleys R.the-row .code (heres R.the-row ys))) ∷ []
 
       -- a turn's postcondition: it ends nearer to the end, or the loop is left and the rest of the body runs
       abbrev Turned : State → Out → SProp 𝓤
@@ -155,32 +165,49 @@ module _ {M : Type 1} (𝓤 : URA M) (H : Heap 𝓤) (A : Atoms 𝓤) (W : Given
       turns : (s : State) → Sq W (At s) (runs C Λ En body.turn-1 (anyQ (Turned s)))
       unfolding afterTurn
       turns s =
-          assigns ! (of-opd ! (load ! (from ! (fld ! refl (stop !))) (look-in ! (L 1) (sub ! 1 refl (whole !))))) (from ! (stop !)) (init ! (L 4) refl (tt, record { fits = room .0 })) $
-          assigns ! (bin ! (load ! (from ! (stop !)) (look ! (L 3) refl)) (load ! (from ! (stop !)) (look ! (L 4) refl)) tt) (from ! (stop !)) (init ! (L 5) refl (tt, tt)) $
+          assigns ! (of-opd ! (load ! (from ! (fld ! refl (stop !))) (look-in ! (L 1) (sub ! 1 refl (whole !))))) (from ! (stop !))
+          (init ! (L 4) refl (tt, record { fits = room .0 })) $
+          assigns ! (bin ! (load ! (from ! (stop !)) (look ! (L 3) refl)) (load ! (from ! (stop !)) (look ! (L 4) refl)) tt) (from ! (stop !))
+          (init ! (L 5) refl (tt, tt)) $
           tests ! (load ! (from ! (stop !)) (look ! (L 5) refl))
           (λ less.
           -- the place of element i, whose record is taken out of the row and lent
-          assigns ! (bin ! (load ! (from ! (stop !)) (look ! (L 3) refl)) (lit ! tt) (record { fits = offset-fits less })) (from ! (stop !)) (store ! (L 4) refl (tt, record { fits = offset-fits less })) $
-          assigns ! (bin ! (load ! (from ! (fld ! refl (stop !))) (look-in ! (L 1) (sub ! 0 refl (whole !)))) (load ! (from ! (stop !)) (look ! (L 4) refl)) tt) (from ! (stop !)) (init ! (L 7) refl (tt, tt)) $
+          assigns ! (bin ! (load ! (from ! (stop !)) (look ! (L 3) refl)) (lit ! tt) (record { fits = offset-fits less })) (from ! (stop !))
+          (store ! (L 4) refl (tt, record { fits = offset-fits less })) $
+          assigns ! (bin ! (load ! (from ! (fld ! refl (stop !))) (look-in ! (L 1) (sub ! 0 refl (whole !)))) (load ! (from ! (stop !)) (look ! (L 4) refl)) tt)
+          (from ! (stop !)) (init ! (L 7) refl (tt, tt)) $
           rewrite ! (L 7) (λ (p : ℕ). ‵ (fat fullShare tyPtr l₇ 0 (vptr b p))) (sym (place-is (mem R.the-row .size) o (s .i))) refl $
           assigns ! (addr ! (from ! (hop ! (look ! (L 7) refl) (stop !)))) (from ! (stop !)) (init ! (L 8) refl (tt, tt)) $
-          use1 W (‵ (partAt R.the-row fullShare of b pl) ⊛ ‵ (others (shares R.the-row) fullShare (s .zs) (s .i) b o)) (takes (shares R.the-row) fullShare 𝓤 H A W (s .zs) (s .i) noRecord b o (within less)) $ split ! $
+          use1 W (‵ (partAt R.the-row fullShare of b pl) ⊛ ‵ (others (shares R.the-row) fullShare (s .zs) (s .i) b o))
+          (takes (shares R.the-row) fullShare 𝓤 H A W (s .zs) (s .i) noRecord b o (within less)) $ split ! $
           -- [row[i]; the others; the locals, 1 + L k; …]
           calls-lent-read ! fm (lent-ref 𝓤 H A W R.the-row of b pl) (ExpireIn 𝓤 H A at-mem run) known (to-expire-in 𝓤 H A at-mem run of b pl _)
-          (λ ν δ. and-then ! (load ! (from ! (stop !)) (look ! (2 + L 8) refl)) (and-then ! (reads-number ! (λ k. 2 + L k) (0 ∷ 0 ∷ t ∷ s .i ∷ []) tt refl) (no-more !)))
-          (goes-expire-in 𝓤 H A at-mem run W of b pl _ (omega (arith, t-fits))) unit (λ _ z. z ≡ expired of _) (expire-in-gives 𝓤 H A at-mem run W of b pl _) (λ v u z expires is.
+          (λ ν δ. and-then ! (load ! (from ! (stop !)) (look ! (2 + L 8) refl))
+          (and-then ! (reads-number ! (λ k. 2 + L k) (0 ∷ 0 ∷ t ∷ s .i ∷ []) tt refl) (no-more !)))
+          (goes-expire-in 𝓤 H A at-mem run W of b pl _ (omega (arith, t-fits))) unit (λ _ z. z ≡ expired of _)
+          (expire-in-gives 𝓤 H A at-mem run W of b pl _) (λ v u z expires is.
           land ! (from ! (stop !)) (init ! (1 + L 6) refl (nothing-lawful 𝓤 H A W .typed u _ is .0)) $
           use2 W (‵ (row R.the-row fullShare (set (s .zs) (s .i) z) b o)) (puts (shares R.the-row) fullShare 𝓤 H A W (s .zs) (s .i) z b o (within less)) $
-          assigns-last ! (bin ! (load ! (from ! (stop !)) (look ! (L 3) refl)) (lit ! tt) (record { fits = next-fits less })) (from ! (stop !)) (store ! (L 3) refl (tt, record { fits = next-fits less })) $
+          assigns-last ! (bin ! (load ! (from ! (stop !)) (look ! (L 3) refl)) (lit ! tt) (record { fits = next-fits less })) (from ! (stop !))
+          (store ! (L 3) refl (tt, record { fits = next-fits less })) $
           forget ! (L 8) refl $ forget ! (L 7) refl $ forget ! (L 6) refl $ forget ! (L 5) refl $ forget ! (L 4) refl $
           again ! Nearer At s
-          (record { i = s .i + 1; zs = set (s .zs) (s .i) z; le = add-one-le (ltb→lt (s .i) n less); len = length-set (s .zs) (s .i) z ∙ s .len; said = one-passed ys t (s .i) (s .zs) (s .said) z expires }) (add-one-dec n (s .i) (ltb→lt (s .i) n less))))
+          (record {
+            i = s .i + 1;
+            zs = set (s .zs) (s .i) z;
+            le = add-one-le (ltb→lt (s .i) n less);
+            len = length-set (s .zs) (s .i) z
+                ∙ s .len;
+            said = one-passed ys t (s .i) (s .zs) (s .said) z expires;
+          }) (add-one-dec n (s .i) (ltb→lt (s .i) n less))))
           (λ over. exec ! C Λ En body.t-3 (atRet En Post) $
           assigns ! (of-opd ! (unit-lit !)) (from ! (stop !)) (init ! (L 0) refl (tt, tt)) $
           move ! (0 ∷ (2 + L 0) ∷ (3 + L 0) ∷ (4 + L 0) ∷ []) $ closes-slice ! tt R.the-row ys (s .zs) (s .len) b o $
           -- [obs; the borrow; the token; each local, 3 + L₀ k]
-          returns ! (look ! (3 + L₀ 0) refl) $ forget ! (3 + L₀ 5) refl $ forget ! (3 + L₀ 4) refl $ forget ! (3 + L₀ 3) refl $ forget ! (3 + L₀ 2) refl $ forget ! (3 + L₀ 1) refl $ forget ! (3 + L₀ 0) refl $
-          move ! (19 ∷ 20 ∷ []) $ free1 ! $ move ! (17 ∷ 18 ∷ []) $ free1 ! $ move ! (15 ∷ 16 ∷ []) $ free1 ! $ move ! (13 ∷ 14 ∷ []) $ free1 ! $ move ! (11 ∷ 12 ∷ []) $ free1 ! $ move ! (9 ∷ 10 ∷ []) $ free1 ! $ move ! (7 ∷ 8 ∷ []) $ free1 ! $
+          returns ! (look ! (3 + L₀ 0) refl) $ forget ! (3 + L₀ 5) refl $ forget ! (3 + L₀ 4) refl $ forget ! (3 + L₀ 3) refl $ forget ! (3 + L₀ 2) refl $
+          forget ! (3 + L₀ 1) refl $ forget ! (3 + L₀ 0) refl $
+          move ! (19 ∷ 20 ∷ []) $ free1 ! $ move ! (17 ∷ 18 ∷ []) $ free1 ! $ move ! (15 ∷ 16 ∷ []) $ free1 ! $ move ! (13 ∷ 14 ∷ []) $ free1 ! $
+          move ! (11 ∷ 12 ∷ []) $ free1 ! $ move ! (9 ∷ 10 ∷ []) $ free1 ! $ move ! (7 ∷ 8 ∷ []) $ free1 ! $
           move ! (5 ∷ 6 ∷ []) $ free1 ! $ move ! (3 ∷ 4 ∷ []) $ free1 ! $ free0 ! $
           by ! (exits (s .zs) (s .len) (s .said ∙ ap (λ (k : ℕ). filled (one ys t) k ys) (le-antisymm (s .le) (nltb→le (s .i) n over)))))
         where
@@ -203,22 +230,30 @@ module _ {M : Type 1} (𝓤 : URA M) (H : Heap 𝓤) (A : Atoms 𝓤) (W : Given
       looped : (s : State) → Sq W (At s) (runs C Λ En body.t-2 (atRet En Post))
       looped s = first ! $ blocks ! $ loops ! 𝓣 Nearer Nearer-wf At turns s
 
-    walk : Is (MutSlice (named 0) κ R.the-row) (under γ ys b o) (sv ∷ []) → ent 𝓤 (onEntry 𝓤 H A expire-all-in.signature (κ, tt) (q, tt) a at) (WpFn 𝓤 H C Λ code.function (sv ∷ vint w64 t ∷ []) Post)
+    walk : Is (MutSlice (named 0) κ R.the-row) (under γ ys b o) (sv ∷ [])
+        → ent 𝓤 (onEntry 𝓤 H A expire-all-in.signature (κ, tt) (q, tt) a at) (WpFn 𝓤 H C Λ code.function (sv ∷ vint w64 t ∷ []) Post)
     walk p =
-        qed W ((‵ (flft κ q) ⊛ ‵ ftrue) ∷ ‵ (owns (MutSlice (named 0) κ R.the-row ∷ u64 ∷ []) a at) ∷ []) ∵ split ! $ move ! (2 ∷ []) $ fsplit ! $ fsplit ! $ drop ! $ fsplit ! $ move ! (0 ∷ 1 ∷ 3 ∷ []) $
+        qed W ((‵ (flft κ q) ⊛ ‵ ftrue) ∷ ‵ (owns (MutSlice (named 0) κ R.the-row ∷ u64 ∷ []) a at) ∷ []) ∵ split ! $ move ! (2 ∷ []) $ fsplit ! $ fsplit ! $
+        drop ! $ fsplit ! $ move ! (0 ∷ 1 ∷ 3 ∷ []) $
         -- [obs; the borrow; the token; what the time owns; true]
         enter ! C Λ code.function (sv ∷ vint w64 t ∷ []) _ $
-        alloc1 ! (λ l₀. alloc1 ! (λ l₁. alloc1 ! (λ l₂. alloc1 ! (λ l₃. alloc1 ! (λ l₄. alloc1 ! (λ l₅. alloc1 ! (λ l₆. alloc1 ! (λ l₇. alloc1 ! (λ l₈. alloc0 ! $ params1 ! $
-        pass1 ! (init ! (L₀ 1) refl (mut-slice-lawful 𝓤 H A W (named 0) κ R.the-row .typed (under γ ys b o) (sv ∷ []) p .0)) $ pass1 ! (init ! (L₀ 2) refl (tt, record { fits = t-fits })) $ pass0 ! $
+        alloc1 !
+        (λ l₀. alloc1 !
+        (λ l₁. alloc1 ! (λ l₂. alloc1 ! (λ l₃. alloc1 ! (λ l₄. alloc1 ! (λ l₅. alloc1 ! (λ l₆. alloc1 ! (λ l₇. alloc1 ! (λ l₈. alloc0 ! $ params1 ! $
+        pass1 ! (init ! (L₀ 1) refl (mut-slice-lawful 𝓤 H A W (named 0) κ R.the-row .typed (under γ ys b o) (sv ∷ []) p .0)) $
+        pass1 ! (init ! (L₀ 2) refl (tt, record { fits = t-fits })) $ pass0 ! $
         assigns ! (of-opd ! (lit ! tt)) (from ! (stop !)) (init ! (L₀ 3) refl (tt, record { fits = lit< tt })) $
         move ! (18 ∷ 19 ∷ 20 ∷ []) $ opens-slice ! tt R.the-row ys b o $
         -- [the row; the open borrow; obs; auth; each local from the last, 4 + L₀ k; …]
         keep ! (0 ∷ 4 ∷ 5 ∷ 6 ∷ 7 ∷ 8 ∷ 9 ∷ 10 ∷ 11 ∷ 12 ∷ 13 ∷ 14 ∷ 15 ∷ 16 ∷ 17 ∷ 18 ∷ 19 ∷ 20 ∷ 21 ∷ 1 ∷ 2 ∷ 3 ∷ []) $
         looped l₀ l₁ l₂ l₃ l₄ l₅ l₆ l₇ l₈ (record { i = 0; zs = ys; le = zero-le; len = refl; said = none-passed ys t }))))))))))
 
-module _ {M : Type 1} (𝓤 : URA M) (H : Heap 𝓤) (A : Atoms 𝓤) (W : Given 𝓤 H A) (at-mem : Memory → SProp 𝓤) (run : Routine → Fun 𝓤) (𝓣 : Tables 𝓤 H) (known : Triple 𝓤 (𝓣 .C #lent·closing·expire-in) (ExpireIn 𝓤 H A at-mem run)) where
+module _ {M : Type 1} (𝓤 : URA M) (H : Heap 𝓤) (A : Atoms 𝓤) (W : Given 𝓤 H A) (at-mem : Memory → SProp 𝓤) (run : Routine → Fun 𝓤) (𝓣 : Tables 𝓤 H)
+    (known : Triple 𝓤 (𝓣 .C #lent-records·closing·expire-in) (ExpireIn 𝓤 H A at-mem run)) where
   expire-all-in-walks : Walks 𝓤 H A expire-all-in.ended stayed (WpFn 𝓤 H (𝓣 .C) (𝓣 .Λ) code.function) (expire-all-in.clauses 𝓤 H A at-mem run)
-  expire-all-in-walks = walked 𝓤 H A expire-all-in.ended stayed (expire-all-in.clauses 𝓤 H A at-mem run) (WpFn 𝓤 H (𝓣 .C) (𝓣 .Λ) code.function) (λ κs. (slice-vals, (uint-vals w64, tt)))
+  expire-all-in-walks =
+      walked 𝓤 H A expire-all-in.ended stayed (expire-all-in.clauses 𝓤 H A at-mem run) (WpFn 𝓤 H (𝓣 .C) (𝓣 .Λ) code.function)
+      (λ κs. (slice-vals, (uint-vals w64, tt)))
       (λ κs. (mut-slice-tells (named 0) (κs .0) R.the-row, (uint-tells w64, tt)))
       (λ κs qs bounds a g are. via 𝓤 _ (fst∗ 𝓤 _ (emp 𝓤))
       (walk 𝓤 H A W at-mem run (κs .0) (qs .0) (a .0 .ptr .0) (a .0 .ptr .1) (a .0 .name) (a .0 .now) (a .1 .0) (are .0 .0 .1) (are .1 .0 .1) 𝓣 known (are .0)))
@@ -227,12 +262,16 @@ module _ {M : Type 1} (𝓤 : URA M) (H : Heap 𝓤) (A : Atoms 𝓤) (W : Given
   goes = (goes-slice 𝓤 H A W 1 0 tt (plain (λ _. R.the-row)), (goes-dropped 𝓤 H A W 1 (plain (λ _. u64)) yes (λ κs x f. refl), tt))
 
   expire-all-in-meets : Meets 𝓤 H A expire-all-in.signature (WpFn 𝓤 H (𝓣 .C) (𝓣 .Λ) code.function) (expire-all-in.spec 𝓤 H A at-mem run)
-  expire-all-in-meets = walk-meets 𝓤 H A expire-all-in.ended stayed W goes (expire-all-in.clauses 𝓤 H A at-mem run) (WpFn 𝓤 H (𝓣 .C) (𝓣 .Λ) code.function) (WpFn-mono 𝓤 H (W .laws) 𝓣 code.function) expire-all-in-walks
+  expire-all-in-meets =
+      walk-meets 𝓤 H A expire-all-in.ended stayed W goes (expire-all-in.clauses 𝓤 H A at-mem run) (WpFn 𝓤 H (𝓣 .C) (𝓣 .Λ) code.function)
+      (WpFn-mono 𝓤 H (W .laws) 𝓣 code.function) expire-all-in-walks
 
 pub expire-all-in-spec : {M : Type 1} → stated.statement M
 unfolding code.routine tablesOf
 expire-all-in-spec 𝓤 H 𝓜 𝓖 𝓡 =
     entered 𝓤 H (tripleOf 𝓤 H (𝓖 .A) expire-all-in.signature (expire-all-in.spec 𝓤 H (𝓖 .A) (𝓜 .mem) (𝓡 .run)))
-    (tables 𝓤 H 𝓜 𝓡 code.env .C) (tables 𝓤 H 𝓜 𝓡 code.env .Λ) #lent-rows·expiry·expire-all-in code.function (code.unfolded 𝓤 H 𝓜 𝓡)
+    (tables 𝓤 H 𝓜 𝓡 code.env .C) (tables 𝓤 H 𝓜 𝓡 code.env .Λ) #lent-records·expiry·expire-all-in code.function (code.unfolded 𝓤 H 𝓜 𝓡)
     (expire-all-in-meets 𝓤 H (𝓖 .A) (givenOf 𝓤 H 𝓜 𝓖) (𝓜 .mem) (𝓡 .run) (tablesOf 𝓤 H 𝓜 (tables 𝓤 H 𝓜 𝓡 code.env))
-    (cited 𝓤 H (ExpireIn 𝓤 H (𝓖 .A) (𝓜 .mem) (𝓡 .run)) 𝓜 𝓡 code.env #lent·closing·expire-in expire-in-def.routine code.calls-lent·closing·expire-in (expire-in-thm.met 𝓤 H 𝓜 𝓖 𝓡)))
+    (cited 𝓤 H (ExpireIn 𝓤 H (𝓖 .A) (𝓜 .mem) (𝓡 .run)) 𝓜 𝓡 code.env #lent-records·closing·expire-in expire-in-def.routine
+    code.calls-lent-records·closing·expire-in
+    (expire-in-thm.met 𝓤 H 𝓜 𝓖 𝓡)))

@@ -1,4 +1,4 @@
--- `counts_hold` meets its contract: where the balance holds, the closed jobs are fewer than the released ones fit.
+-- `counts::counts_hold` meets its contract: where the balance holds, met and missed together are at most released, so their sum does not wrap.
 use Prim.Native.Nat.{_+_}
 use mathlib.Core.Path.{sym, _∙_}
 use native.Mathlib.Omega.{arith}

@@ -1,4 +1,4 @@
--- `marks_within` meets its contract: 64 places hold every word, and below that a shift is exact.
+-- `counts::marks_within` meets its contract: 64 places hold every word, and below that a shift is exact.
 use mathlib.Core.Path.{sym, _∙_}
 use native.Mathlib.Nat.{one-mul, lt-of-lt-of-le}
 use native.Mathlib.Omega.{arith}

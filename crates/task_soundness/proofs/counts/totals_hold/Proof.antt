@@ -1,4 +1,4 @@
--- `totals_hold` meets its contract: `totalsHold` goes by the same tests.
+-- `counts::totals_hold` meets its contract: `totalsHold` makes the same tests.
 use Prim.Native.Nat.{ℕ, _^_}
 use mathlib.Core.Path.{sym, ap, _∙_}
 use borrow.Author.Tests.{le-leb, lt-leb}

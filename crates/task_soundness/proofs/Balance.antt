@@ -1,4 +1,4 @@
--- The tests of the code are those of the definitions, though they make no sum that could wrap.
+-- The tests of the code, which make no sum that could wrap, are those of the definitions: what is added on one side is taken off on the other.
 use Prim.Native.Nat.{ℕ, _+_, _-_, _≤_}
 use mathlib.Core.Path.{_≡_, sym, _∙_}
 use native.Mathlib.Decide.{ℕ-discrete}

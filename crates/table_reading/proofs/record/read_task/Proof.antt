@@ -1,4 +1,4 @@
--- `read_task` meets its contract: each way out is a case of what one record reads as, told of the copy.
+-- `record::read_task` meets its contract: each way out is a case of what one record reads as, told of the copy.
 use Prim.Native.Nat.{ℕ}
 use mathlib.Core.Path.{_≡_, sym, ap, _∙_}
 use mathlib.Core.List.{List}
@@ -9,8 +9,8 @@ use Rattle.table_reading.specs.declared.Row.the-variants as Row
 use Rattle.table_rules.specs.Rules.{taskFault}
 use Rattle.table_reading.specs.Row.{taskOf}
 use Rattle.table_reading.proofs.Rows.{not-16, first-wrong, second-wrong, marked, row-refused, row-task}
-use Rattle.table_reading.proofs.row.read_task.Statement.{statement}
-use Rattle.table_reading.proofs.row.read_task.Tie as tie
+use Rattle.table_reading.proofs.record.read_task.Statement.{statement}
+use Rattle.table_reading.proofs.record.read_task.Tie as tie
 
 -- a byte of the copy is the slice's
 byte-of : {s t : List ℕ} (i : ℕ) → t ≡ s → getD t i 0 ≡ getD s i 0
@@ -42,7 +42,8 @@ returns-3 c =
     let b = c .before .before in
     let s = b .before .before .before .args .bytes .now in
     let e = b .copied .ensures in
-    sym (row-refused s 2 (second-wrong s (b .before .if1 .left) (sym (byte-of 0 e) ∙ c .before .if2 .left) (λ z. c .if3 .taken (byte-of 1 e ∙ z))) (λ z. omega arith))
+    sym (row-refused s 2 (second-wrong s (b .before .if1 .left) (sym (byte-of 0 e) ∙ c .before .if2 .left) (λ z. c .if3 .taken (byte-of 1 e ∙ z)))
+    (λ z. omega arith))
 
 slice-aggregate-task-of : tie.Need-slice-aggregate-task-of
 slice-aggregate-task-of c = search needs
