@@ -8,10 +8,14 @@ use Rattle.listing_text.specs.Words.{inputTooLongWord, tableRefusedWord,
 abbrev pub tooLong : List ℕ
 tooLong = inputTooLongWord ++ lineEnd
 
+-- a word, a refusal's number, and where it was found
+abbrev pub foundAt : List ℕ → ℕ → ℕ → List ℕ
+foundAt word n place = fieldOf word n ++ (fieldOf atWord place ++ lineEnd)
+
 -- `table refused N at P`
 abbrev pub refusedLine : ℕ → ℕ → List ℕ
-refusedLine n p = fieldOf tableRefusedWord n ++ (fieldOf atWord p ++ lineEnd)
+refusedLine n p = foundAt tableRefusedWord n p
 
 -- `stop N at O`
 abbrev pub stopLine : ℕ → ℕ → List ℕ
-stopLine n offset = fieldOf stopWord n ++ (fieldOf atWord offset ++ lineEnd)
+stopLine n offset = foundAt stopWord n offset

@@ -1,18 +1,15 @@
--- `refused` meets its contract: the number, the position and the end of the line, one behind another.
+-- `found_at` meets its contract: the number, the place and the end of the line, one behind another.
 use borrow.Author.Needs.{needs}
 use Rattle.text_writing.specs.Sheet.{sheet}
 use Rattle.text_writing.proofs.Sheets.{and-then}
-use Rattle.listing_refusal_line.proofs.refused.Statement.{statement}
-use Rattle.listing_refusal_line.proofs.refused.Tie as tie
-
-slice-aggregate-field : tie.Need-slice-aggregate-field
-slice-aggregate-field c = search needs
+use Rattle.listing_refusal_line.proofs.found_at.Statement.{statement}
+use Rattle.listing_refusal_line.proofs.found_at.Tie as tie
 
 field-requires : tie.Need-field-requires
 field-requires c κs = search needs
 
-slice-aggregate-field-2 : tie.Need-slice-aggregate-field-2
-slice-aggregate-field-2 c = search needs
+slice-aggregate-field : tie.Need-slice-aggregate-field
+slice-aggregate-field c = search needs
 
 field-requires-2 : tie.Need-field-requires-2
 field-requires-2 c κs = search needs
@@ -34,13 +31,12 @@ returns c =
     let a = f1 .before .before .before .before .args in
     and-then (sheet (a .out .now) (a .at)) _ _ (f1 .field .ensures) (and-then _ _ _ (f2 .field2 .ensures) (w .words .ensures))
 
-pub refused-spec : {M : Type 1} → statement M
-refused-spec =
+pub found-at-spec : {M : Type 1} → statement M
+found-at-spec =
     tie.close
     (tie.spec
-    slice-aggregate-field
     field-requires
-    slice-aggregate-field-2
+    slice-aggregate-field
     field-requires-2
     slice-aggregate-words
     words-requires
