@@ -6,4 +6,6 @@ pub mod Frame
 pub mod Kept
 pub mod Places
 pub mod Runs
+pub mod After
 pub mod Worked
+pub mod Computing

@@ -2,3 +2,4 @@
 pub mod Cells
 pub mod Exactly
 pub mod Worked
+pub mod Computing

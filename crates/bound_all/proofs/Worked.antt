@@ -3,19 +3,15 @@ use Prim.Native.Nat.{ℕ}
 use mathlib.Core.Path.{_≡_, refl}
 use mathlib.Core.List.{List, [], _∷_}
 use lib.ListN.{replicate}
-use Rattle.laws.specs.Sums.{total}
-use Rattle.laws.specs.Stores.{filled}
 use Rattle.table_rules.specs.declared.Table.{Table}
 use Rattle.table_rules.specs.declared.Answer.{Answer}
 use Rattle.table_rules.specs.declared.Answer.the-variants.{Accepted, Refused}
-use Rattle.table_rules.specs.Rules.{taskFault, noTask}
-use Rattle.table_rules.specs.Judging.{firstFault, judged}
+use Rattle.table_rules.specs.Rules.{noTask}
 use Rattle.bound_one.specs.declared.Bound.{Bound}
 use Rattle.bound_one.specs.declared.Bound.the-variants as Bound
-use Rattle.bound_demand.specs.Demand.{demand}
-use Rattle.bound_search.specs.Fits.{firstFit}
 use Rattle.bound_one.specs.Asked.{oneAnswer}
 use Rattle.bound_all.specs.Asked.{allAnswer, allCells}
+use Rattle.bound_all.proofs.Computing.{bounds-compute}
 
 -- tasks 0: (2,4,4,(1,2)) and 1: (3,d,8,(1,3))
 abbrev pub paper : ℕ → Table
@@ -43,5 +39,5 @@ told =
     ∷ []
 
 pub worked : figures 7 ∷ figures 6 ∷ [] ≡ told
-unfolding oneAnswer allAnswer allCells judged firstFault taskFault firstFit demand total filled
+unfolding bounds-compute
 worked = refl

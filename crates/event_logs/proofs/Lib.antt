@@ -4,3 +4,4 @@ pub mod Logs
 pub mod Rests
 pub mod Endings
 pub mod Going
+pub mod Computing

@@ -2,3 +2,4 @@
 pub mod Rules
 pub mod ReadOne
 pub mod Single
+pub mod Computing

@@ -1,5 +1,4 @@
 -- The theorems on runs under the premise, up to the guarantee.
-pub mod Sums
 pub mod Busy
 pub mod Required
 pub mod Levels
@@ -9,5 +8,6 @@ pub mod Ticks
 pub mod Runs
 pub mod Theorem
 pub mod Trying
+pub mod Computing
 pub mod Listing
 pub mod Needed

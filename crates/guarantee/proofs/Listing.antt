@@ -1,40 +1,28 @@
--- The guarantee is not empty: the rules' listing events, as far as they obey the premise, are an instance, and so is a run whose task misses
--- m times outside the required class. By computation.
+-- The guarantee is not empty: the rules' listing events, as far as they obey the premise, are an instance, and so is a run whose task misses m times outside
+-- the required class. By computation.
 use Prim.Native.Nat.{ℕ}
 use mathlib.Core.Path.{_≡_, refl}
 use mathlib.Core.Bool.{Bool, true, false}
 use mathlib.Core.List.{List, [], _∷_}
 use native.Mathlib.Omega.{arith}
-use lib.Count.{ones, onesIn}
 use lib.Dec.{lit<}
 use lib.ListN.{replicate}
-use Rattle.laws.specs.Stores.{filled}
-use Rattle.laws.specs.Sums.{total}
 use Rattle.event_reading.specs.declared.Event.{Event}
-use Rattle.event_reading.specs.Event.{zeroes, faultOf}
 use Rattle.table_rules.specs.declared.Task.{Task}
 use Rattle.table_rules.specs.declared.Table.{Table}
 use Rattle.table_rules.specs.declared.Answer.the-variants.{Accepted}
-use Rattle.table_rules.specs.Rules.{taskFault, noTask}
-use Rattle.table_rules.specs.Judging.{firstFault, judged}
-use Rattle.task_records.specs.Closing.{closed}
-use Rattle.task_steps.specs.Opening.{expired, opened}
+use Rattle.table_rules.specs.Rules.{noTask}
 use Rattle.task_records.specs.Window.{windowOf}
-use Rattle.task_soundness.specs.Sound.{soundHolds}
 use Rattle.state_rules.specs.State.{freshState}
-use Rattle.state_rules.specs.Sound.{eachHolds, stateHolds}
-use Rattle.state_choice.specs.Choice.{bestTo}
-use Rattle.bound_search.specs.Fits.{firstFit}
-use Rattle.bound_demand.specs.Demand.{demand}
 use Rattle.bound_all.specs.Asked.{boundCell, allAnswer}
-use Rattle.apply_events.specs.Apply.{ticked, releasedAt, completedAt, byKind, timed, acted, applied}
-use Rattle.run_histories.specs.History.{Job, runState, runRecord, jobsOf}
-use Rattle.guarantee.specs.ChosenTime.{standsAt, chosenTime}
+use Rattle.bound_all.proofs.Computing.{bounds-compute}
+use Rattle.run_histories.specs.History.{Job, runRecord, jobsOf}
 use Rattle.guarantee.specs.Premise.{Premise}
 use Rattle.guarantee.specs.Guarantee.{Promise}
 use Rattle.run_histories.proofs.InOrder.{onto}
-use Rattle.guarantee.proofs.Trying.{shortTo, obeysAt, premise-by}
+use Rattle.guarantee.proofs.Trying.{premise-by}
 use Rattle.guarantee.proofs.Theorem.{guarantee}
+use Rattle.guarantee.proofs.Computing.{run-computes}
 
 abbrev pub taskOf : ℕ → ℕ → ℕ → ℕ → ℕ → Task
 taskOf c d t m k = record { c = c; d = d; t = t; m = m; k = k }
@@ -56,7 +44,7 @@ abbrev pub listed : Table
 listed = record { count = 2; tasks = taskOf 2 4 4 1 2 ∷ taskOf 3 7 8 1 3 ∷ replicate 14 noTask }
 
 listed-bounds : (allAnswer listed 16 ≡ Accepted) × (boundCell listed 0 ≡ 2) × (boundCell listed 1 ≡ 7)
-unfolding allAnswer judged firstFault taskFault firstFit demand total
+unfolding bounds-compute
 listed-bounds = (refl, refl, refl)
 
 -- its first seven events, newest first; the fourth is refused 11 and the seventh 12
@@ -69,11 +57,11 @@ pub seven-in-order : onto (releases 0 0 ∷ releases 1 0 ∷ finishes 0 1 2 ∷ 
 seven-in-order = refl
 
 pub seven-obey : Premise (freshState listed) seven
-unfolding obeysAt shortTo chosenTime standsAt runState total filled applied acted timed byKind ticked releasedAt completedAt stateHolds eachHolds soundHolds taskFault closed expired opened bestTo zeroes faultOf ones onesIn
+unfolding run-computes
 seven-obey = premise-by (freshState listed) seven refl
 
 pub seven-jobs : (jobsOf (freshState listed) seven 0 ≡ jobOf 1 0 0 2 true ∷ []) × (jobsOf (freshState listed) seven 1 ≡ jobOf 1 0 0 5 true ∷ [])
-unfolding jobsOf runState filled applied acted timed byKind ticked releasedAt completedAt stateHolds eachHolds soundHolds taskFault closed expired opened bestTo zeroes faultOf ones onesIn
+unfolding run-computes
 seven-jobs = (refl, refl)
 
 pub seven-kept : Promise listed (freshState listed) seven 0 × Promise listed (freshState listed) seven 1
@@ -81,7 +69,7 @@ seven-kept = (guarantee listed 16 (listed-bounds .0) seven seven-obey 0 (lit< tt
 
 -- the eighth, the tick at 9, does not obey it: job 2 of task 0 is open and has had its 2 ticks at 7
 pub eighth-late : Premise (freshState listed) (ticks 9 ∷ seven) → ⊥
-unfolding Premise chosenTime standsAt runState total filled applied acted timed byKind ticked releasedAt completedAt stateHolds eachHolds soundHolds taskFault closed expired opened bestTo zeroes faultOf ones onesIn
+unfolding Premise run-computes
 eighth-late p = omega (arith, p .1 refl 0 7 (lit< tt) refl (omega arith) .not-after)
 
 -- a task of (2,3) beside a hard one: it misses two jobs in a row in class 1, both times while the hard task has the processor
@@ -89,7 +77,7 @@ abbrev pub shared : Table
 shared = record { count = 2; tasks = taskOf 1 2 4 2 3 ∷ taskOf 3 8 8 0 1 ∷ replicate 14 noTask }
 
 shared-bounds : (allAnswer shared 16 ≡ Accepted) × (boundCell shared 0 ≡ 1) × (boundCell shared 1 ≡ 4)
-unfolding allAnswer judged firstFault taskFault firstFit demand total
+unfolding bounds-compute
 shared-bounds = (refl, refl, refl)
 
 abbrev pub twice : List Event
@@ -107,14 +95,14 @@ twice =
     ∷ []
 
 pub twice-obey : Premise (freshState shared) twice
-unfolding obeysAt shortTo chosenTime standsAt runState total filled applied acted timed byKind ticked releasedAt completedAt stateHolds eachHolds soundHolds taskFault closed expired opened bestTo zeroes faultOf ones onesIn
+unfolding run-computes
 twice-obey = premise-by (freshState shared) twice refl
 
 pub twice-jobs : jobsOf (freshState shared) twice 0 ≡ jobOf 4 20 0 21 true ∷ jobOf 3 12 1 15 false ∷ jobOf 2 4 1 7 false ∷ jobOf 1 0 0 1 true ∷ []
-unfolding jobsOf runState filled applied acted timed byKind ticked releasedAt completedAt stateHolds eachHolds soundHolds taskFault closed expired opened bestTo zeroes faultOf ones onesIn
+unfolding run-computes
 twice-jobs = refl
 
 -- the window holds m misses, and is kept
 pub twice-window : (windowOf (runRecord (freshState shared) twice 0) ≡ 2) × Promise shared (freshState shared) twice 0
-unfolding runState filled applied acted timed byKind ticked releasedAt completedAt stateHolds eachHolds soundHolds taskFault closed expired opened bestTo zeroes faultOf ones onesIn
+unfolding run-computes
 twice-window = (refl, guarantee shared 16 (shared-bounds .0) twice twice-obey 0 (lit< tt))

@@ -5,40 +5,31 @@ use mathlib.Core.Bool.{true, false, cond}
 use mathlib.Core.List.{List, [], _∷_}
 use borrow.Author.Tests.{eq-eqb}
 use native.Mathlib.Omega.{arith}
-use lib.Count.{ones, onesIn}
 use lib.Dec.{eqb}
 use lib.IntN.{pos}
 use lib.ListN.{replicate}
-use Rattle.laws.specs.Stores.{filled}
-use Rattle.laws.specs.Sums.{total}
 use Rattle.laws.proofs.Tests.{true-not-false}
 use Rattle.event_reading.specs.declared.Event.{Event}
-use Rattle.event_reading.specs.Event.{zeroes, faultOf}
 use Rattle.table_rules.specs.declared.Table.{Table}
 use Rattle.table_rules.specs.declared.Answer.the-variants as Answer
 use Rattle.table_rules.specs.Rules.{taskFault, noTask}
-use Rattle.table_rules.specs.Judging.{firstFault, judged}
 use Rattle.task_records.specs.declared.Record.{Record}
-use Rattle.task_records.specs.Closing.{closed}
-use Rattle.task_steps.specs.Opening.{fresh, expired, opened, noRecord}
+use Rattle.task_steps.specs.Opening.{fresh, noRecord}
 use Rattle.task_records.specs.Window.{windowOf}
 use Rattle.task_soundness.specs.Sound.{soundHolds}
 use Rattle.state_rules.specs.declared.State.{State}
 use Rattle.state_rules.specs.State.{freshState}
 use Rattle.state_rules.specs.Sound.{eachHolds, stateHolds}
-use Rattle.state_choice.specs.Choice.{bestTo}
-use Rattle.bound_search.specs.Fits.{firstFit}
-use Rattle.bound_demand.specs.Demand.{demand}
 use Rattle.bound_one.specs.declared.Bound.the-variants as Bound
 use Rattle.bound_all.specs.Asked.{allAnswer}
+use Rattle.bound_all.proofs.Computing.{bounds-compute}
 use Rattle.bound_one.specs.Asked.{oneAnswer}
-use Rattle.apply_events.specs.Apply.{ticked, releasedAt, completedAt, byKind, timed, acted, applied}
-use Rattle.run_histories.specs.History.{Job, runState, runRecord, jobsOf}
-use Rattle.guarantee.specs.ChosenTime.{standsAt, chosenTime}
+use Rattle.run_histories.specs.History.{Job, runRecord, jobsOf}
 use Rattle.guarantee.specs.Premise.{Premise}
 use Rattle.guarantee.specs.Guarantee.{Promise}
-use Rattle.guarantee.proofs.Trying.{shortTo, obeysAt, Obeys, obeys-by, premise-by}
+use Rattle.guarantee.proofs.Trying.{Obeys, obeys-by, premise-by}
 use Rattle.guarantee.proofs.Listing.{taskOf, releases, finishes, ticks, jobOf}
+use Rattle.guarantee.proofs.Computing.{run-computes}
 
 -- the newest closed job of a task was of the required class, and missed
 not-kept : (t : Table) (s : State) (es : List Event) (i : ℕ) (j : Job) (jobs : List Job)
@@ -57,15 +48,15 @@ abbrev late : List Event
 late = ticks 2 ∷ releases 0 0 ∷ []
 
 alone-accepted : allAnswer alone 16 ≡ Answer.Accepted
-unfolding allAnswer judged firstFault taskFault firstFit demand total
+unfolding bounds-compute
 alone-accepted = refl
 
 late-obeys : Obeys OnlyReleases (freshState alone) late
-unfolding obeysAt shortTo chosenTime standsAt runState total filled applied acted timed byKind ticked releasedAt completedAt stateHolds eachHolds soundHolds taskFault closed expired opened bestTo zeroes faultOf ones onesIn
+unfolding run-computes
 late-obeys = obeys-by OnlyReleases (λ e. cond (eqb (e .kind) 1) (e .time) 0) (λ e x h k. rw (eq-eqb _ _ k) at h) (freshState alone) late refl
 
 late-jobs : jobsOf (freshState alone) late 0 ≡ jobOf 1 0 0 2 false ∷ []
-unfolding jobsOf runState filled applied acted timed byKind ticked releasedAt completedAt stateHolds eachHolds soundHolds taskFault closed expired opened bestTo zeroes faultOf ones onesIn
+unfolding run-computes
 late-jobs = refl
 
 pub without-after : (allAnswer alone 16 ≡ Answer.Accepted) × Obeys OnlyReleases (freshState alone) late × (Promise alone (freshState alone) late 0 → ⊥)
@@ -73,7 +64,7 @@ without-after = (alone-accepted, late-obeys, not-kept alone (freshState alone) l
 
 -- the tick itself closes the job: a premise on the jobs that are open after an event, and not as it arrives, would let this run through
 pub open-as-it-arrives : runRecord (freshState alone) late 0 .live ≡ false
-unfolding runState filled applied acted timed byKind ticked releasedAt completedAt stateHolds eachHolds soundHolds taskFault closed expired opened bestTo zeroes faultOf ones onesIn
+unfolding run-computes
 open-as-it-arrives = refl
 
 -- ---- releases at x: one hard task of C, D and T 2, whose job has had its ticks at 2, and its next release at 2
@@ -88,15 +79,15 @@ abbrev again : List Event
 again = releases 0 2 ∷ releases 0 0 ∷ []
 
 tight-accepted : allAnswer tight 16 ≡ Answer.Accepted
-unfolding allAnswer judged firstFault taskFault firstFit demand total
+unfolding bounds-compute
 tight-accepted = refl
 
 again-obeys : Obeys OnlyAfter (freshState tight) again
-unfolding obeysAt shortTo chosenTime standsAt runState total filled applied acted timed byKind ticked releasedAt completedAt stateHolds eachHolds soundHolds taskFault closed expired opened bestTo zeroes faultOf ones onesIn
+unfolding run-computes
 again-obeys = obeys-by OnlyAfter (λ e. e .time - 1) (λ e x h. omega arith) (freshState tight) again refl
 
 again-jobs : jobsOf (freshState tight) again 0 ≡ jobOf 1 0 0 2 false ∷ []
-unfolding jobsOf runState filled applied acted timed byKind ticked releasedAt completedAt stateHolds eachHolds soundHolds taskFault closed expired opened bestTo zeroes faultOf ones onesIn
+unfolding run-computes
 again-jobs = refl
 
 pub without-releases : (allAnswer tight 16 ≡ Answer.Accepted) × Obeys OnlyAfter (freshState tight) again × (Promise tight (freshState tight) again 0 → ⊥)
@@ -111,15 +102,15 @@ abbrev starved : List Event
 starved = releases 2 3 ∷ finishes 0 1 1 ∷ releases 2 0 ∷ releases 1 0 ∷ releases 0 0 ∷ []
 
 crowded-bounds : (allAnswer crowded 16 ≡ Answer.Refused 13 1) × (oneAnswer crowded 2 ≡ Bound.At 3)
-unfolding allAnswer oneAnswer judged firstFault taskFault firstFit demand total
+unfolding bounds-compute
 crowded-bounds = (refl, refl)
 
 starved-obeys : Premise (freshState crowded) starved
-unfolding obeysAt shortTo chosenTime standsAt runState total filled applied acted timed byKind ticked releasedAt completedAt stateHolds eachHolds soundHolds taskFault closed expired opened bestTo zeroes faultOf ones onesIn
+unfolding run-computes
 starved-obeys = premise-by (freshState crowded) starved refl
 
 starved-jobs : jobsOf (freshState crowded) starved 2 ≡ jobOf 1 0 0 3 false ∷ []
-unfolding jobsOf runState filled applied acted timed byKind ticked releasedAt completedAt stateHolds eachHolds soundHolds taskFault closed expired opened bestTo zeroes faultOf ones onesIn
+unfolding run-computes
 starved-jobs = refl
 
 pub without-bounds : (oneAnswer crowded 2 ≡ Bound.At 3) × Premise (freshState crowded) starved × (Promise crowded (freshState crowded) starved 2 → ⊥)
@@ -131,7 +122,7 @@ abbrev pair : Table
 pair = record { count = 2; tasks = taskOf 1 2 4 1 2 ∷ taskOf 3 8 8 0 1 ∷ replicate 14 noTask }
 
 pair-accepted : allAnswer pair 16 ≡ Answer.Accepted
-unfolding allAnswer judged firstFault taskFault firstFit demand total
+unfolding bounds-compute
 pair-accepted = refl
 
 abbrev missedOnce : Record
@@ -162,11 +153,11 @@ unfolding stateHolds eachHolds soundHolds taskFault
 stale-sound = refl
 
 second-obeys : Premise stale second
-unfolding obeysAt shortTo chosenTime standsAt runState total filled applied acted timed byKind ticked releasedAt completedAt stateHolds eachHolds soundHolds taskFault closed expired opened bestTo zeroes faultOf ones onesIn
+unfolding run-computes
 second-obeys = premise-by stale second refl
 
 second-window : windowOf (runRecord stale second 0) ≡ 2
-unfolding runState filled applied acted timed byKind ticked releasedAt completedAt stateHolds eachHolds soundHolds taskFault closed expired opened bestTo zeroes faultOf ones onesIn
+unfolding run-computes
 second-window = refl
 
 pub without-fresh : (allAnswer pair 16 ≡ Answer.Accepted) × (stateHolds stale ≡ true) × Premise stale second × (Promise pair stale second 0 → ⊥)

@@ -1,34 +1,21 @@
--- The guarantee for bytes is not empty: the rules' table and its first seven listing events, as bytes, are an instance, and the C function's
--- answers along them are those that the rules list. By computation.
+-- The guarantee for bytes is not empty: the rules' table and its first seven listing events, as bytes, are an instance, and the C function's answers along
+-- them are those that the rules list. By computation.
 use Prim.Native.Nat.{ℕ}
 use mathlib.Core.Path.{_≡_, refl}
 use mathlib.Core.List.{List, [], _∷_, _++_, map}
 use native.Mathlib.Omega.{arith}
-use lib.Count.{ones, onesIn}
 use lib.Dec.{lit<}
-use Rattle.laws.specs.Stores.{filled}
-use Rattle.laws.specs.Sums.{total}
-use Rattle.number_reading.specs.Words.{number}
 use Rattle.event_reading.specs.declared.Event.{Event}
-use Rattle.event_reading.specs.Event.{zeroes, faultOf}
-use Rattle.event_reading.specs.Record.{marks, readRecord}
-use Rattle.event_logs.specs.Log.{readableIn, readable, eventsIn, eventsOf}
+use Rattle.event_logs.specs.Log.{eventsOf}
+use Rattle.event_logs.proofs.Computing.{log-computes}
 use Rattle.table_rules.specs.declared.Answer.the-variants.{Accepted}
-use Rattle.table_rules.specs.Rules.{taskFault}
-use Rattle.table_rules.specs.Judging.{firstFault, judged}
-use Rattle.table_reading.specs.Row.{recordFault}
-use Rattle.table_reading.specs.Table.{readAnswer, readTable}
-use Rattle.task_records.specs.Closing.{closed}
-use Rattle.task_steps.specs.Opening.{expired, opened}
-use Rattle.task_soundness.specs.Sound.{soundHolds}
+use Rattle.table_reading.specs.Table.{readTable}
+use Rattle.table_reading.proofs.Computing.{table-computes}
 use Rattle.state_rules.specs.State.{freshState}
-use Rattle.state_rules.specs.Sound.{eachHolds, stateHolds}
-use Rattle.state_choice.specs.Choice.{bestTo}
-use Rattle.apply_events.specs.Apply.{ticked, releasedAt, completedAt, byKind, timed, acted, applied}
 use Rattle.apply_events.specs.Log.{ranOver, ran}
-use Rattle.bound_search.specs.Fits.{firstFit}
-use Rattle.bound_demand.specs.Demand.{demand}
+use Rattle.apply_events.proofs.Computing.{event-computes}
 use Rattle.bound_all.specs.Asked.{allAnswer}
+use Rattle.bound_all.proofs.Computing.{bounds-compute}
 use Rattle.rig_codes.specs.Code.{logCase, caseOf, codeOf, begins}
 use Rattle.guarantee.proofs.Listing.{releases, finishes, ticks, listed, seven-obey, eighth-late}
 use Rattle.guarantee_of_logs.specs.Premise.{LogObeys}
@@ -65,19 +52,19 @@ abbrev pub logBytes : List ℕ
 logBytes = bytesOf sevenEvents
 
 pub bytes-read : BothRead tableBytes logBytes
-unfolding readTable readAnswer recordFault number taskFault firstFault judged filled readRecord marks readableIn readable faultOf zeroes
+unfolding table-computes log-computes
 bytes-read = record { tabled = refl; whole = refl }
 
 table-is : readTable tableBytes .table ≡ listed
-unfolding readTable readAnswer recordFault number taskFault firstFault judged filled
+unfolding table-computes
 table-is = refl
 
 events-are : eventsOf logBytes ≡ sevenEvents
-unfolding readRecord marks number readableIn readable eventsIn faultOf zeroes
+unfolding log-computes
 events-are = refl
 
 bounds-given : allAnswer listed 16 ≡ Accepted
-unfolding allAnswer judged firstFault taskFault firstFit demand total
+unfolding bounds-compute
 bounds-given = refl
 
 -- ---- the premise and the promise
@@ -106,5 +93,5 @@ bytes-obey-by-answers = answers-of-logs tableBytes logBytes bytes-read (omega ar
 -- ---- the C function's answers for the first 0 to 7 records: none, 0, 0, 1, refused 11, 1, 0, refused 12
 
 pub bytes-codes : map (codeAfter tableBytes logBytes) (0 ∷ 1 ∷ 2 ∷ 3 ∷ 4 ∷ 5 ∷ 6 ∷ 7 ∷ []) ≡ 16 ∷ 0 ∷ 0 ∷ 1 ∷ 43 ∷ 1 ∷ 0 ∷ 44 ∷ []
-unfolding codeOf caseOf logCase ran ranOver readTable readAnswer recordFault number taskFault firstFault judged filled readRecord marks readableIn readable eventsIn faultOf zeroes applied acted timed byKind ticked releasedAt completedAt closed expired opened bestTo soundHolds eachHolds stateHolds ones onesIn
+unfolding codeOf caseOf logCase ran ranOver table-computes log-computes event-computes
 bytes-codes = refl

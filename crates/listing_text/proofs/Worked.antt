@@ -2,29 +2,13 @@
 use Prim.Native.Nat.{ℕ}
 use mathlib.Core.Path.{_≡_, refl}
 use mathlib.Core.List.{List, [], _∷_, _++_}
-use lib.Count.{ones, onesIn}
-use Rattle.laws.specs.Stores.{filled}
-use Rattle.laws.specs.Sums.{total}
-use Rattle.number_reading.specs.Words.{number}
 use Rattle.text_writing.specs.Decimal.{digitsIn, decimal}
-use Rattle.table_rules.specs.Rules.{taskFault}
-use Rattle.table_rules.specs.Judging.{firstFault, judged}
-use Rattle.table_reading.specs.Row.{recordFault}
-use Rattle.table_reading.specs.Table.{readAnswer, readTable}
-use Rattle.bound_search.specs.Fits.{firstFit}
-use Rattle.bound_demand.specs.Demand.{demand}
-use Rattle.bound_one.specs.Asked.{oneAnswer}
-use Rattle.event_reading.specs.Event.{faultOf, zeroes}
-use Rattle.event_reading.specs.Record.{marks, readRecord}
-use Rattle.event_logs.specs.Log.{readableIn, readable, eventsIn}
-use Rattle.task_records.specs.Closing.{closed}
-use Rattle.task_steps.specs.Opening.{expired, opened}
-use Rattle.task_soundness.specs.Sound.{soundHolds}
-use Rattle.state_rules.specs.Sound.{eachHolds, stateHolds}
-use Rattle.state_choice.specs.Choice.{bestTo}
-use Rattle.apply_events.specs.Apply.{ticked, releasedAt, completedAt, byKind, timed, acted, applied}
+use Rattle.table_reading.proofs.Computing.{table-computes}
+use Rattle.bound_one.proofs.Computing.{bound-computes}
+use Rattle.event_logs.proofs.Computing.{log-computes}
 use Rattle.listing_text.specs.TableLines.{taskLines, lastLines}
 use Rattle.apply_events.specs.Log.{stateAfter}
+use Rattle.apply_events.proofs.Computing.{event-computes}
 use Rattle.listing_text.specs.LogLines.{eventLines, stopText}
 use Rattle.listing_text.specs.Listing.{tableListing, listed, listingOf}
 
@@ -117,15 +101,20 @@ line10 = 101 ∷ 118 ∷ 101 ∷ 110 ∷ 116 ∷ 32 ∷ 56 ∷ 32 ∷ 105 ∷ 10
 
 -- task 0 met 1 missed 1 open 0 window 1 broken 0
 abbrev line11 : List ℕ
-line11 = 116 ∷ 97 ∷ 115 ∷ 107 ∷ 32 ∷ 48 ∷ 32 ∷ 109 ∷ 101 ∷ 116 ∷ 32 ∷ 49 ∷ 32 ∷ 109 ∷ 105 ∷ 115 ∷ 115 ∷ 101 ∷ 100 ∷ 32 ∷ 49 ∷ 32 ∷ 111 ∷ 112 ∷ 101 ∷ 110 ∷ 32 ∷ 48 ∷ 32 ∷ 119 ∷ 105 ∷ 110 ∷ 100 ∷ 111 ∷ 119 ∷ 32 ∷ 49 ∷ 32 ∷ 98 ∷ 114 ∷ 111 ∷ 107 ∷ 101 ∷ 110 ∷ 32 ∷ 48 ∷ 10 ∷ []
+line11 =
+    116 ∷ 97 ∷ 115 ∷ 107 ∷ 32 ∷ 48 ∷ 32 ∷ 109 ∷ 101 ∷ 116 ∷ 32 ∷ 49 ∷ 32 ∷ 109 ∷ 105 ∷ 115 ∷ 115 ∷ 101 ∷ 100 ∷ 32 ∷ 49 ∷ 32 ∷ 111 ∷ 112 ∷ 101 ∷ 110 ∷ 32 ∷ 48
+    ∷ 32 ∷ 119 ∷ 105 ∷ 110 ∷ 100 ∷ 111 ∷ 119 ∷ 32 ∷ 49 ∷ 32 ∷ 98 ∷ 114 ∷ 111 ∷ 107 ∷ 101 ∷ 110 ∷ 32 ∷ 48 ∷ 10 ∷ []
 
 -- task 1 met 1 missed 0 open 0 window 0 broken 0
 abbrev line12 : List ℕ
-line12 = 116 ∷ 97 ∷ 115 ∷ 107 ∷ 32 ∷ 49 ∷ 32 ∷ 109 ∷ 101 ∷ 116 ∷ 32 ∷ 49 ∷ 32 ∷ 109 ∷ 105 ∷ 115 ∷ 115 ∷ 101 ∷ 100 ∷ 32 ∷ 48 ∷ 32 ∷ 111 ∷ 112 ∷ 101 ∷ 110 ∷ 32 ∷ 48 ∷ 32 ∷ 119 ∷ 105 ∷ 110 ∷ 100 ∷ 111 ∷ 119 ∷ 32 ∷ 48 ∷ 32 ∷ 98 ∷ 114 ∷ 111 ∷ 107 ∷ 101 ∷ 110 ∷ 32 ∷ 48 ∷ 10 ∷ []
+line12 =
+    116 ∷ 97 ∷ 115 ∷ 107 ∷ 32 ∷ 49 ∷ 32 ∷ 109 ∷ 101 ∷ 116 ∷ 32 ∷ 49 ∷ 32 ∷ 109 ∷ 105 ∷ 115 ∷ 115 ∷ 101 ∷ 100 ∷ 32 ∷ 48 ∷ 32 ∷ 111 ∷ 112 ∷ 101 ∷ 110 ∷ 32 ∷ 48
+    ∷ 32 ∷ 119 ∷ 105 ∷ 110 ∷ 100 ∷ 111 ∷ 119 ∷ 32 ∷ 48 ∷ 32 ∷ 98 ∷ 114 ∷ 111 ∷ 107 ∷ 101 ∷ 110 ∷ 32 ∷ 48 ∷ 10 ∷ []
 
 abbrev pub text : List ℕ
 text = line1 ++ line2 ++ line3 ++ line4 ++ line5 ++ line6 ++ line7 ++ line8 ++ line9 ++ line10 ++ line11 ++ line12
 
 pub document : listingOf input ≡ text
-unfolding listingOf listed tableListing taskLines eventLines stateAfter stopText lastLines readTable readAnswer recordFault number taskFault firstFault judged filled oneAnswer firstFit demand total readRecord marks readableIn readable eventsIn faultOf zeroes applied acted timed byKind ticked releasedAt completedAt closed expired opened bestTo soundHolds eachHolds stateHolds ones onesIn digitsIn decimal
+unfolding listingOf listed tableListing taskLines eventLines stateAfter stopText lastLines table-computes bound-computes log-computes
+    event-computes digitsIn decimal
 document = refl

@@ -3,3 +3,4 @@ pub mod Records
 pub mod Rows
 pub mod Exactly
 pub mod Given
+pub mod Computing

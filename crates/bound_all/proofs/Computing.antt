@@ -1,0 +1,9 @@
+-- What all bounds is worked out by, under one name: whoever unfolds the name unfolds every definition on its line.
+use Rattle.laws.specs.Stores.{filled}
+use Rattle.bound_one.proofs.Computing.{bound-computes}
+use Rattle.bound_all.specs.Asked.{allAnswer, allCells}
+
+-- `allAnswer` and `allCells` of a table that is written out
+unfoldable pub bounds-compute : Unit {0}
+unfolding allAnswer allCells filled bound-computes
+bounds-compute = tt
