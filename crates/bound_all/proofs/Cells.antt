@@ -1,4 +1,4 @@
--- What the lent cells hold afterwards: each task's bound, the old cells past the count, and all the old cells where anything is refused.
+-- The lent cells hold each task's bound, with the old cells past the count, and are all as they were where anything is refused: by the cases of the answer.
 use Prim.Native.Nat.{ℕ, _≤_, _<_}
 use mathlib.Core.Path.{_≡_, refl}
 use mathlib.Core.List.{List}

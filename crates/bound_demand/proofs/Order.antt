@@ -1,4 +1,5 @@
--- Of two tasks at different positions exactly one is above the other; no task is above itself, and above goes on through a third.
+-- Of two tasks at different positions exactly one is above the other, no task is above itself, and above is transitive: the test tells the order of
+-- `table_rules`.
 use Prim.Native.Nat.{ℕ, _<_}
 use mathlib.Core.Path.{_≡_, refl, sym}
 use mathlib.Core.Bool.{true, false}

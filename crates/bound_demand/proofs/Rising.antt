@@ -1,4 +1,4 @@
--- The demand never falls as the stretch grows, and is never below the task's own cost.
+-- The demand never falls as the stretch grows, and is never below the task's own cost: part by part.
 use Prim.Native.Nat.{ℕ, _≤_, _<_}
 use mathlib.Core.Path.{_≡_}
 use mathlib.Core.Bool.{Bool, true, false, cond}

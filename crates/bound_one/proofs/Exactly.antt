@@ -1,4 +1,5 @@
--- Each refusal of one bound is given exactly when the rules say: the table's own first, then 10, then 13; and a bound is answered exactly where it is the task's.
+-- Each refusal of one bound is given exactly when the rules say: the table's own first, then 10, then 13; and a bound is answered exactly where it is the
+-- task's.
 use Prim.Native.Nat.{ℕ, _≤_, _<_}
 use mathlib.Core.Path.{_≡_, refl, sym, ap}
 use mathlib.Core.Bool.{Bool, true, false, cond}
@@ -7,7 +8,7 @@ use native.Mathlib.Decide.{ℕ-discrete}
 use native.Mathlib.Omega.{arith}
 use borrow.Author.Tests.{lt-ltb, le-ltb, ltb-true, ltb-false}
 use lib.Dec.{ltb}
-use Rattle.laws.proofs.Tests.{single}
+use Rattle.laws.proofs.Tests.{impossible, single}
 use Rattle.table_rules.specs.declared.Table.{Table}
 use Rattle.table_rules.specs.declared.Answer.{Answer}
 use Rattle.table_rules.specs.declared.Answer.the-variants as Answer
@@ -92,7 +93,7 @@ module _ (t : Table) where
     one-position a = go (oneAnswer t k) one-case
       where
         go : (b : Bound) → One t k b → boundValue b ≡ 0 → boundPosition b ≡ k
-        go _ (own e) z = let y : _≡_ {A = ℕ} 0 1 = cc in absurd (omega arith)
+        go _ (own e) z = impossible cc
         go _ (past e h) z = refl
         go _ (none e h n) z = refl
         go _ (found e h b) z = absurd (omega (arith, z, b .some))
@@ -101,7 +102,7 @@ module _ (t : Table) where
     one-found r = (go (oneAnswer t k) one-case, λ q. sym (one-only _ (found (q .0) (q .1) (q .2))))
       where
         go : (b : Bound) → One t k b → b ≡ Bound.At r → (judged t ≡ Answer.Accepted) × (k < t .count) × IsBound t k r
-        go _ (own e) z = let y : _≡_ {A = ℕ} 0 1 = cc in absurd (omega arith)
-        go _ (past e h) z = let y : _≡_ {A = ℕ} 0 1 = cc in absurd (omega arith)
-        go _ (none e h n) z = let y : _≡_ {A = ℕ} 0 1 = cc in absurd (omega arith)
+        go _ (own e) z = impossible cc
+        go _ (past e h) z = impossible cc
+        go _ (none e h n) z = impossible cc
         go (Bound.At s) (found e h b) z = let y : s ≡ r = cc in (e, h, rw y at b)

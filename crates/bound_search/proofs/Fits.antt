@@ -7,6 +7,7 @@ use native.Mathlib.Decide.{decLt, ℕ-discrete}
 use native.Mathlib.Omega.{arith}
 use borrow.Author.Tests.{le-leb, lt-leb}
 use lib.Dec.{leb}
+use Rattle.laws.proofs.Tests.{impossible}
 use Rattle.bound_search.specs.declared.Found.the-variants.{At, Nothing}
 use Rattle.bound_search.specs.Fits.{Smallest, NoneFits, orNext, firstFit}
 
@@ -71,13 +72,13 @@ module _ (f : ℕ → ℕ) where
           let q = fit-at n (s .0) (s .1) in
           let z : s .0 ≡ r = cc in
           rw z at (s .1)
-      go (inr h) = let q = fit-none n h in let z : _≡_ {A = ℕ} 0 1 = cc in absurd (omega arith)
+      go (inr h) = let q = fit-none n h in impossible cc
 
   pub fit-none-then : (n : ℕ) → firstFit f n ≡ Nothing → NoneFits f n
   fit-none-then n e = go (look n)
     where
       go : ((r : ℕ) × Smallest f n r) ⊎ NoneFits f n → NoneFits f n
-      go (inl s) = let q = fit-at n (s .0) (s .1) in let z : _≡_ {A = ℕ} 0 1 = cc in absurd (omega arith)
+      go (inl s) = let q = fit-at n (s .0) (s .1) in impossible cc
       go (inr h) = h
 
 -- the first fit goes by what f is alone

@@ -1,4 +1,5 @@
--- What a bound is: the one number that is found, met with equality, and enough for the task with all above it.
+-- The number that the search finds is the bound of the rules, the only one, and equal to the demand there: since the first fit is the smallest and the demand
+-- never falls.
 use Prim.Native.Nat.{ℕ, _+_, _≤_, _<_}
 use mathlib.Core.Path.{_≡_}
 use mathlib.Core.Logic.{_↔_}

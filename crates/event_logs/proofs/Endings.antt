@@ -7,6 +7,7 @@ use native.Mathlib.Omega.{arith}
 use lib.ListN.{length, drop, length-drop}
 use lib.Seq.{drop-drop}
 use Rattle.laws.proofs.Answers.{exactly, one-answer}
+use Rattle.laws.proofs.Tests.{impossible}
 use Rattle.event_reading.specs.declared.Event.{Event}
 use Rattle.event_reading.specs.declared.Reading.{Reading}
 use Rattle.event_reading.specs.declared.Reading.the-variants as R
@@ -69,8 +70,8 @@ module _ (log : List ℕ) where
   pub ends-only : (e : Ending) → Ends log e → e ≡ endingOf log
   ends-only e (whole n all none) =
       let r : readAt log n ≡ R.End = read-end (drop (20 * n) log) .1 (rw length-drop (omega arith)) in
-      rw (← readable-only log n all (λ x q. let z : _≡_ {A = ℕ} 0 1 = cc in omega arith), r)
-  ends-only e (stopped n all {number} r) = rw (← readable-only log n all (λ x q. let z : _≡_ {A = ℕ} 0 1 = cc in omega arith), r)
+      rw (← readable-only log n all (λ x q. impossible cc), r)
+  ends-only e (stopped n all {number} r) = rw (← readable-only log n all (λ x q. impossible cc), r)
 
   -- a log has an ending exactly when its rule holds
   pub ending-exactly : (e : Ending) → endingOf log ≡ e ↔ Ends log e
@@ -87,7 +88,7 @@ module _ (log : List ℕ) where
       go : (r : Reading) → readRecord (restOf log) ≡ r → endedBy r (20 * readable log) ≡ E.Whole → r ≡ R.End
       go (R.Event e) q z = absurd (rest-silent log e q)
       go R.End q z = refl
-      go (R.Refused n) q z = let y : _≡_ {A = ℕ} 0 1 = cc in absurd (omega arith)
+      go (R.Refused n) q z = impossible cc
 
   -- ---- its number and its offset
 

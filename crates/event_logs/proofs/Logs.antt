@@ -1,12 +1,13 @@
--- A log: each record before the stop reads, and its events are those of the records, one by one.
+-- Each record before the stop reads, the one at the stop does not, and the events of a log are those of its records: by induction on the records.
 use Prim.Native.Nat.{ℕ, zero, suc, _+_, _*_, _<_}
 use mathlib.Core.Path.{_≡_, refl, ap, _∙_}
 use mathlib.Core.List.{List, [], _∷_}
 use mathlib.Core.Logic.{_⊎_, inl, inr}
 use native.Mathlib.Decide.{decLt}
 use native.Mathlib.Omega.{arith}
-use lib.ListN.{getD, drop}
+use lib.ListN.{getD, drop, length}
 use lib.Seq.{drop-drop}
+use Rattle.laws.proofs.Tests.{impossible}
 use Rattle.event_reading.specs.declared.Event.{Event}
 use Rattle.event_reading.specs.declared.Reading.the-variants as R
 use Rattle.event_reading.specs.Event.{faultOf}
@@ -50,7 +51,8 @@ stops-at =
     (λ s g h. rw (g .counts) (rw (next-at s (readable (drop 20 s))) at h))
 
 -- the number of readable records is the only one with both
-pub readable-only : (s : List ℕ) (n : ℕ) → ((i : ℕ) → i < n → (e : Event) × (readAt s i ≡ R.Event e)) → ((e : Event) → readAt s n ≡ R.Event e → ⊥) → n ≡ readable s
+pub readable-only : (s : List ℕ) (n : ℕ) → ((i : ℕ) → i < n → (e : Event) × (readAt s i ≡ R.Event e))
+    → ((e : Event) → readAt s n ≡ R.Event e → ⊥) → n ≡ readable s
 readable-only s n before stop = go (decLt n (readable s)) (decLt (readable s) n)
   where
     go : Dec (n < readable s) → Dec (readable s < n) → n ≡ readable s
@@ -68,6 +70,15 @@ event-of-log s i none h = go (readable s) i s h
     go (suc n) zero s h = refl
     go (suc n) (suc i) s h = go n i (drop 20 s) (omega arith) ∙ ap eventOf (next-at s i)
 
+-- as many as the records that read
+pub events-length : (s : List ℕ) → length (eventsOf s) ≡ readable s
+unfolding eventsIn
+events-length s = go (readable s) s
+  where
+    go : (n : ℕ) (s : List ℕ) → length (eventsIn n s) ≡ n
+    go zero s = refl
+    go (suc n) s = ap suc (go n (drop 20 s))
+
 -- the events of a log, by what its front reads as
 pub events-more : (s : List ℕ) (e : Event) → readRecord s ≡ R.Event e → eventsOf s ≡ e ∷ eventsOf (drop 20 s)
 unfolding eventsIn
@@ -83,3 +94,7 @@ events-none s k = go (front s)
     go : Goes s ⊎ Stops s → eventsIn (readable s) s ≡ []
     go (inl g) = absurd (k (eventOf s) (g .reads))
     go (inr f) = rw (f .none)
+
+pub events-empty : eventsOf [] ≡ []
+unfolding readRecord
+events-empty = events-none [] (λ e q. impossible cc)

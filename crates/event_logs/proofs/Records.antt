@@ -6,6 +6,7 @@ use mathlib.Core.Logic.{_⊎_, inl, inr}
 use native.Mathlib.Omega.{arith}
 use lib.ListN.{length, drop, length-drop}
 use lib.Seq.{drop-drop}
+use Rattle.laws.proofs.Tests.{impossible}
 use Rattle.event_reading.specs.declared.Event.{Event}
 use Rattle.event_reading.specs.declared.Reading.{Reading}
 use Rattle.event_reading.specs.declared.Reading.the-variants as R
@@ -51,8 +52,8 @@ front s = go (readRecord s) refl
     go (R.Event e) q =
         let w = event-of s e q in
         inl (record { long = w .0; marked = w .1 .0; ruled = w .1 .1 .0; reads = q ∙ ap R.Event (w .1 .1 .1); counts = rw q at (readable-step s) })
-    go R.End q = inr (record { silent = λ e p. let z : _≡_ {A = ℕ} 0 1 = cc in omega arith; none = rw q at (readable-step s) })
-    go (R.Refused n) q = inr (record { silent = λ e p. let z : _≡_ {A = ℕ} 0 1 = cc in omega arith; none = rw q at (readable-step s) })
+    go R.End q = inr (record { silent = λ e p. impossible cc; none = rw q at (readable-step s) })
+    go (R.Refused n) q = inr (record { silent = λ e p. impossible cc; none = rw q at (readable-step s) })
 
 pub goes-of : (s : List ℕ) (e : Event) → readRecord s ≡ R.Event e → Goes s
 goes-of s e q = go (front s)

@@ -9,7 +9,7 @@ use borrow.Author.Tests.{ltb-true, ltb-false, eqb-true, eqb-false, lt-ltb, le-lt
 use lib.Dec.{ltb, eqb}
 use lib.ListN.{length, getD}
 use Rattle.laws.proofs.Answers.{exactly}
-use Rattle.laws.proofs.Tests.{test-false, fact-not}
+use Rattle.laws.proofs.Tests.{impossible, test-false, fact-not}
 use Rattle.event_reading.specs.declared.Event.{Event}
 use Rattle.event_reading.specs.declared.Reading.{Reading}
 use Rattle.event_reading.specs.declared.Reading.the-variants as R
@@ -25,8 +25,8 @@ marks-marked s t = go (eqb (getD s 0 0) 0x45) refl (eqb (getD s 1 0) 0x56) refl 
   where
     go : (a : Bool) → eqb (getD s 0 0) 0x45 ≡ a → (b : Bool) → eqb (getD s 1 0) 0x56 ≡ b → cond a b false ≡ true → Marked s
     go true p true q r = record { first = eqb-true _ _ p; second = eqb-true _ _ q }
-    go true p false q r = let z : _≡_ {A = ℕ} 0 1 = cc in absurd (omega arith)
-    go false p b q r = let z : _≡_ {A = ℕ} 0 1 = cc in absurd (omega arith)
+    go true p false q r = impossible cc
+    go false p b q r = impossible cc
 
 marked-marks : (s : List ℕ) → Marked s → marks s ≡ true
 unfolding marks
@@ -85,8 +85,8 @@ number-refused (R.Refused m) n q = ap R.Refused q
 
 handed-event : (r : Reading) (e : Event) → readSaid r .values ≡ e ∷ [] → r ≡ R.Event e
 handed-event (R.Event x) e q = ap R.Event (cc)
-handed-event R.End e q = let z : _≡_ {A = ℕ} 0 1 = cc in absurd (omega arith)
-handed-event (R.Refused m) e q = let z : _≡_ {A = ℕ} 0 1 = cc in absurd (omega arith)
+handed-event R.End e q = impossible cc
+handed-event (R.Refused m) e q = impossible cc
 
 number-is : (s : List ℕ) (n : ℕ) → readSaid (readRecord s) .number ≡ suc n ↔ Reads s (R.Refused (suc n))
 number-is s n = (

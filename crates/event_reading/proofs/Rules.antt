@@ -7,20 +7,16 @@ use native.Mathlib.Omega.{arith}
 use borrow.Author.Tests.{ltb-true, ltb-false, eqb-true, eqb-false, lt-ltb, le-ltb, eq-eqb}
 use lib.Dec.{ltb, eqb}
 use Rattle.laws.proofs.Answers.{exactly}
-use Rattle.laws.proofs.Tests.{test-false, fact-not}
+use Rattle.laws.proofs.Tests.{test-false, fact-not, both-hold}
 use Rattle.event_reading.specs.declared.Event.{Event}
 use Rattle.event_reading.specs.Event.{Zeroed, Ruled, Judged, unknown, stray, sound, zeroes, faultOf}
-
-both : (a b : Bool) → cond a b false ≡ true → (a ≡ true) × (b ≡ true)
-both true b p = (refl, p)
-both false b p = (p, cc)
 
 pub zeroes-zeroed : (e : Event) → zeroes e ≡ true → Zeroed e
 unfolding zeroes
 zeroes-zeroed e t =
     record {
-      tick-task = λ p. eqb-true _ _ (both (eqb (e .task) 0) (eqb (e .job) 0) (rw (eq-eqb _ _ p) at t) .0);
-      tick-job = λ p. eqb-true _ _ (both (eqb (e .task) 0) (eqb (e .job) 0) (rw (eq-eqb _ _ p) at t) .1);
+      tick-task = λ p. eqb-true _ _ (both-hold (eqb (e .task) 0) (eqb (e .job) 0) (rw (eq-eqb _ _ p) at t) .0);
+      tick-job = λ p. eqb-true _ _ (both-hold (eqb (e .task) 0) (eqb (e .job) 0) (rw (eq-eqb _ _ p) at t) .1);
       release-job = λ p. eqb-true _ _ (rw p at t);
     }
 

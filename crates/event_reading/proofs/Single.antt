@@ -1,4 +1,4 @@
--- Each rule admits a single answer: no two rules hold of one argument. Of a contract that is an equation `laws` Tests `single` says it.
+-- No two rules for one event, or for one record, give different answers: the computed answer is the only one that a rule holds of.
 use Prim.Native.Nat.{ℕ}
 use mathlib.Core.Path.{_≡_}
 use mathlib.Core.List.{List}

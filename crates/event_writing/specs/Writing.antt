@@ -1,4 +1,4 @@
--- Rules, "Order of refusals", for writing an event: the 20 bytes of an event, the value's own refusal, then 14; bytes past the record stay, and a refused write leaves all.
+-- Rules, "Order of refusals", for writing an event: the value's own refusal, then 14; bytes past the 20 of the record stay, and a refused write leaves all.
 use Prim.Native.Nat.{ℕ, _^_, _≤_, _<_}
 use mathlib.Core.Bool.{cond}
 use mathlib.Core.List.{List, [], _∷_, _++_}

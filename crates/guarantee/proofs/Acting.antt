@@ -1,5 +1,5 @@
--- An accepted event keeps the busy time of every level and what holds of every task: a tick and a completion bring no job, and a release brings
--- one that finds each level before its bound.
+-- An accepted event keeps the busy time of every level and what holds of every task: a tick and a completion bring no job, and a release brings one that
+-- finds each level before its bound.
 use Prim.Native.Nat.{ℕ, _+_, _≤_, _<_}
 use mathlib.Core.Path.{_≡_, refl, sym, ap, subst, _∙_}
 use mathlib.Core.Bool.{Bool, true, false}
@@ -18,7 +18,8 @@ use Rattle.task_soundness.proofs.Kept.{end}
 use Rattle.task_steps.specs.Own.{tooSoon, reopened}
 use Rattle.apply_events.proofs.Kept.{spaced-by}
 use Rattle.run_histories.specs.History.{Job, closedJob}
-use Rattle.run_histories.proofs.Steps.{closed-idle, cleared, cleared-open, cleared-none, cleared-same, cleared-idle, Expired, over, stays, expiry, expired-same, expired-open}
+use Rattle.run_histories.proofs.Steps.{closed-idle, cleared, cleared-open, cleared-none, cleared-same, cleared-idle, Expired, over, stays, expiry, expired-same}
+use Rattle.run_histories.proofs.Steps.{expired-open}
 use Rattle.run_histories.proofs.Closes.{jobsWith, closes-none, closes-stays, closes-idle, closes-next, other-kind, other-task, own-task}
 use Rattle.guarantee.proofs.Busy.{keep, add}
 use Rattle.guarantee.proofs.Required.{isDue, due-intro, due-live, due-class, above-required, Fine, begun, fine-later, fine-missed, fine-met, fine-opened}
@@ -141,9 +142,16 @@ module _ (n : ℕ) (p : ℕ → Task) (above : ℕ → ℕ → Bool) (bound spac
         none-due d =
             let q = expired-same (m .rec a) t in
             let f = inv .fine a c in
-            let s = spaced-by (passed a) t soon (λ z. begun (p a) (bound a) (m .clock) (m .jobs a) (m .rec a) f (due-live (m .rec a) d) (sym (q .released) ∙ z)) in
+            let s =
+            spaced-by (passed a) t soon (λ z. begun (p a) (bound a) (m .clock) (m .jobs a) (m .rec a) f (due-live (m .rec a) d) (sym (q .released) ∙ z)) in
             let w = ap (λ (x : Task). x .t) (q .task ∙ f .task) in
-            omega (arith, safe n p above bound space gate quota g m inv t onward (e .kind ≡ 1) later picks less a c d .1 k, g .within a c, g .spaced a c, q .last)
+            omega (
+              arith,
+              safe n p above bound space gate quota g m inv t onward (e .kind ≡ 1) later picks less a c d .1 k,
+              g .within a c,
+              g .spaced a c,
+              q .last,
+            )
 
         none-passed : isDue (passed a) ≡ false
         none-passed =
@@ -208,7 +216,8 @@ module _ (n : ℕ) (p : ℕ → Task) (above : ℕ → ℕ → Bool) (bound spac
 
         opened-fine : Fine (p a) (bound a) t jobs (rec a)
         opened-fine =
-            subst (λ (r : Record). Fine (p a) (bound a) t jobs r) (sym there) (fine-opened (p a) (bound a) t jobs found (ready .fine) short (cleared-idle (passed a)) apart)
+            subst (λ (r : Record). Fine (p a) (bound a) t jobs r) (sym there)
+            (fine-opened (p a) (bound a) t jobs found (ready .fine) short (cleared-idle (passed a)) apart)
 
         opened-due : isDue (rec a) ≡ true → classOf (found .level) ≡ 0
         unfolding opened

@@ -1,5 +1,4 @@
--- The levels of a table's tasks over a moment: at each level the counting argument holds of the task and those above it, in any order of the
--- tasks that goes on through a third.
+-- At each task's level the counting argument holds of the task and those above it, whatever the order of the tasks, as long as it is transitive.
 use Prim.Native.Nat.{ℕ, zero, suc, _+_, _*_, _≤_, _<_, max}
 use mathlib.Core.Path.{_≡_, refl, ap}
 use mathlib.Core.Bool.{Bool, true, false, cond}
@@ -11,14 +10,16 @@ use borrow.Author.Tests.{eq-eqb, ne-eqb}
 use lib.Dec.{eqb}
 use Rattle.laws.specs.Numbers.{ceiling}
 use Rattle.laws.specs.Sums.{total}
+use Rattle.laws.proofs.Numbers.{cond-mono}
+use Rattle.laws.proofs.Sums.{total-shift}
+use Rattle.laws.proofs.Tests.{cond-yes}
 use Rattle.table_rules.specs.declared.Task.{Task}
 use Rattle.task_records.specs.declared.Record.{Record}
 use Rattle.run_histories.specs.History.{Job}
-use Rattle.guarantee.proofs.Sums.{total-shift}
-use Rattle.guarantee.proofs.Busy.{View, Busy, share, cond-yes, cond-mono}
+use Rattle.guarantee.proofs.Busy.{View, Busy, share}
 use Rattle.guarantee.proofs.Required.{isDue, Fine, Gates}
 
--- above goes on through a third
+-- above is transitive
 abbrev pub Through : (ℕ → ℕ → Bool) → Type 0
 Through above = (i j k : ℕ) → above i j ≡ true → above j k ≡ true → above i k ≡ true
 
@@ -125,6 +126,6 @@ module _ (n : ℕ) (p : ℕ → Task) (above : ℕ → ℕ → Bool) (bound spac
             (λ i h o.
             cond-mono (upTo above k i) (above i k) (allowance bound space k i * p i .c) (ceiling (bound k) (space i) * p i .c) (above-other above i k o)
             (λ u. rw (others i o) (omega arith))),
-        cond-yes (upTo above k k) (allowance bound space k k * p k .c) (up-itself above k),
+        cond-yes (upTo above k k) (allowance bound space k k * p k .c) 0 (up-itself above k),
         ap (λ (x : ℕ). x * p k .c) own,
       )

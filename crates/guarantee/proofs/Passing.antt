@@ -1,17 +1,17 @@
--- Time passes up to an event: the chosen job of the required class gets the gap, so no such job is found past its bound, and each level's busy
--- time goes on or begins anew. The premise on the chosen job is all that is used of a run.
+-- Time passes up to an event: the chosen job of the required class gets the gap, so no such job is found past its bound, and each level's busy time goes on
+-- or begins anew. The premise on the chosen job is all that is used of a run.
 use Prim.Native.Nat.{ℕ, _+_, _-_, _≤_, _<_}
 use mathlib.Core.Path.{_≡_, refl, sym, ap, subst, _∙_}
 use mathlib.Core.Bool.{Bool, true, false, cond}
 use mathlib.Core.Logic.{_⊎_, inl, inr}
 use native.Mathlib.Nat.{le-refl}
 use native.Mathlib.Omega.{arith}
-use Rattle.laws.proofs.Tests.{true-not-false, both-hold}
+use Rattle.laws.proofs.Tests.{true-not-false, both-hold, both-true}
 use Rattle.table_rules.specs.declared.Task.{Task}
 use Rattle.task_records.specs.declared.Record.{Record}
 use Rattle.task_steps.specs.Opening.{expired}
 use Rattle.run_histories.proofs.Steps.{Expired, over, stays, expiry, expired-open, expired-in-time}
-use Rattle.guarantee.proofs.Busy.{After, both-true, lead, rebase, advance}
+use Rattle.guarantee.proofs.Busy.{After, lead, rebase, advance}
 use Rattle.guarantee.proofs.Required.{isDue, due-intro, due-live, due-class, above-required}
 use Rattle.guarantee.proofs.Levels.{upTo, up-itself, up-through, Moment, costs, Level, viewOf, Steady, Given}
 

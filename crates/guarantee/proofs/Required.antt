@@ -1,4 +1,5 @@
--- One task's record with its closed jobs: what every step keeps of them, as long as no job of the required class is found past its deadline.
+-- One task's record and its closed jobs keep what the guarantee says of them, step by step, as long as no job of the required class is found past its
+-- deadline.
 use Prim.Native.Nat.{ℕ, _+_, _≤_, _<_}
 use mathlib.Core.Path.{_≡_, refl, sym, _∙_}
 use mathlib.Core.Bool.{Bool, true, false, cond}

@@ -1,5 +1,5 @@
--- The moments of a run: the engine's choice has every tick up to the next accepted event, so the premise gives what the counting argument asks,
--- and each event keeps it. By induction on the events.
+-- The moments of a run: the engine's choice has every tick up to the next accepted event, so the premise gives what the counting argument asks, and each
+-- event keeps it. By induction on the events.
 use Prim.Native.Nat.{ℕ, _+_, _-_, _≤_, _<_, min}
 use mathlib.Core.Path.{_≡_, refl, sym, ap, subst, _∙_}
 use mathlib.Core.Bool.{true, false}

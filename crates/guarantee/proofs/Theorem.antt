@@ -1,5 +1,5 @@
--- Demand 3: the table's analysis gives what the counting argument asks, so it holds after every run that obeys the premise, and each task's ledger
--- keeps its windows.
+-- Demand 3: the table's analysis gives what the counting argument asks, so it holds after every run that obeys the premise, and each task's ledger keeps its
+-- windows.
 use Prim.Native.Nat.{ℕ, _<_}
 use mathlib.Core.Path.{_≡_}
 use mathlib.Core.List.{List}

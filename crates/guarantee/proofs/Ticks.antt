@@ -1,44 +1,20 @@
 -- Chosen time, tick by tick: it never falls, a job that is the choice gets every tick from the clock on, and a later event alters no earlier tick.
-use Prim.Native.Nat.{ℕ, zero, suc, _+_, _-_, _≤_, _<_, min}
+use Prim.Native.Nat.{ℕ, _+_, _-_, _≤_, _<_, min}
 use mathlib.Core.Path.{_≡_, refl, sym, ap, _∙_}
 use mathlib.Core.Bool.{true, cond}
 use mathlib.Core.List.{List, [], _∷_}
-use native.Mathlib.Nat.{le-refl, min-eq-left}
+use native.Mathlib.Nat.{min-eq-left}
 use native.Mathlib.Decide.{decLe}
 use native.Mathlib.Omega.{arith}
 use borrow.Author.Tests.{le-leb, lt-leb}
 use lib.Dec.{leb}
 use Rattle.laws.specs.Numbers.{oneIf}
 use Rattle.laws.specs.Sums.{total}
-use Rattle.laws.proofs.Sums.{total-same}
+use Rattle.laws.proofs.Sums.{total-same, total-more, total-ones}
 use Rattle.event_reading.specs.declared.Event.{Event}
 use Rattle.state_rules.specs.declared.State.{State}
 use Rattle.run_histories.specs.History.{runState}
 use Rattle.guarantee.specs.ChosenTime.{standsAt, isChoice, chosenTime}
-
--- a longer sum is no smaller
-total-more : (f : ℕ → ℕ) (n k : ℕ) → total f n ≤ total f (n + k)
-unfolding total
-total-more f n zero = rw (plus-zero n) (le-refl (total f n))
-  where
-    plus-zero : (n : ℕ) → n + zero ≡ n
-    plus-zero n = omega arith
-total-more f n (suc k) = rw (plus-suc n k) (omega (arith, total-more f n k))
-  where
-    plus-suc : (n k : ℕ) → n + suc k ≡ suc (n + k)
-    plus-suc n k = omega arith
-
--- ones from n on
-total-ones : (f : ℕ → ℕ) (n k : ℕ) → ((i : ℕ) → n ≤ i → f i ≡ 1) → total f (n + k) ≡ total f n + k
-unfolding total
-total-ones f n zero h = rw (plus-zero n) (omega arith)
-  where
-    plus-zero : (n : ℕ) → n + zero ≡ n
-    plus-zero n = omega arith
-total-ones f n (suc k) h = rw (plus-suc n k) (omega (arith, total-ones f n k h, h (n + k) (omega arith)))
-  where
-    plus-suc : (n k : ℕ) → n + suc k ≡ suc (n + k)
-    plus-suc n k = omega arith
 
 module _ (s : State) where
   -- from its clock on, the newest state stands

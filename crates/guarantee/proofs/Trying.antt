@@ -1,5 +1,5 @@
--- Whether a run obeys the premise, as a test of each event at one tick: chosen time never falls, so the latest tick at which an open job has to be
--- short of C decides for all. What an event owes is a parameter, so that weaker premises can be tried too.
+-- Whether a run obeys the premise, as a test of each event at one tick: chosen time never falls, so the latest tick at which an open job has to be short of C
+-- decides for all. What an event owes is a parameter, so that weaker premises can be tried too.
 use Prim.Native.Nat.{ℕ, zero, suc, _+_, _-_, _≤_, _<_}
 use mathlib.Core.Path.{_≡_}
 use mathlib.Core.Bool.{Bool, true, false, cond}

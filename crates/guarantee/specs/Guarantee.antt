@@ -27,4 +27,6 @@ pub record Promise (t : Table) (s : State) (es : List Event) (i : ℕ) : Type 0 
 -- fresh state that obeys the premise: of every task
 abbrev pub Guarantee : Type 0
 Guarantee =
-    (t : Table) (room : ℕ) → allAnswer t room ≡ Accepted → (es : List Event) → Premise (freshState t) es → (i : ℕ) → i < t .count → Promise t (freshState t) es i
+    (t : Table) (room : ℕ) → allAnswer t room ≡ Accepted
+    → (es : List Event) → Premise (freshState t) es
+    → (i : ℕ) → i < t .count → Promise t (freshState t) es i

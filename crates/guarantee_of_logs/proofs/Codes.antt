@@ -1,5 +1,5 @@
--- What the C function answers for the first n records is the choice after n events, or the refusal of the last: the first 20 n bytes read whole as
--- these events, and the code of a log is that of its last event.
+-- What the C function answers for the first n records is the choice after n events, or the refusal of the last: the first 20 n bytes read whole as these
+-- events, and the code of a log is that of its last event.
 use Prim.Native.Nat.{ℕ, zero, suc, _*_, min, _≤_, _<_}
 use mathlib.Core.Path.{_≡_, refl, sym, ap, subst, _∙_}
 use mathlib.Core.Bool.{Bool, true, false, cond}
@@ -18,6 +18,7 @@ use Rattle.event_logs.specs.declared.Ending.the-variants as E
 use Rattle.event_logs.specs.Ending.{endingOf}
 use Rattle.event_logs.proofs.Rests.{rest-end}
 use Rattle.event_logs.proofs.Endings.{ending-whole}
+use Rattle.event_logs.proofs.Logs.{events-length}
 use Rattle.state_rules.specs.declared.State.{State}
 use Rattle.state_rules.specs.State.{recordAt}
 use Rattle.state_rules.specs.Sound.{StateSound}
@@ -26,10 +27,10 @@ use Rattle.state_rules.proofs.Sounding.{state-tells}
 use Rattle.state_choice.proofs.Least.{found-below}
 use Rattle.apply_events.specs.declared.Answer.{Answer}
 use Rattle.apply_events.specs.declared.Answer.the-variants as A
-use Rattle.apply_events.specs.declared.Applied.{Applied}
 use Rattle.apply_events.specs.Apply.{answerOf, applied}
 use Rattle.apply_events.specs.Log.{standing, ran}
 use Rattle.apply_events.proofs.Runs.{ran-by}
+use Rattle.apply_events.proofs.After.{after-sound}
 use Rattle.run_histories.specs.History.{accepts}
 use Rattle.run_histories.proofs.Taken.{refused-leaves, answers-choice}
 use Rattle.rig_codes.specs.Code.{codeFor, ofAnswer, codeOf, begins}
@@ -40,8 +41,8 @@ use Rattle.rig_codes.proofs.Told.{empty-log}
 use Rattle.guarantee_of_logs.specs.Places.{eventAt, afterFirst, acceptedAt}
 use Rattle.guarantee_of_logs.specs.Bytes.{BothRead}
 use Rattle.guarantee_of_logs.specs.Codes.{codeAfter, choiceCode, CodeTells, at-first, last-accepted, last-refused, CodesOfLogs}
-use Rattle.guarantee_of_logs.proofs.Places.{after-sound, after-more}
-use Rattle.guarantee_of_logs.proofs.Fronts.{events-length, front-events, front-whole}
+use Rattle.guarantee_of_logs.proofs.Places.{after-more}
+use Rattle.guarantee_of_logs.proofs.Fronts.{front-events, front-whole}
 
 -- ---- an answer and its code
 
@@ -105,7 +106,7 @@ codes-of-logs table log read size (suc n) h =
     subst (CodeTells (begins table) (eventsOf log) (suc n)) (sym (front-code table log (read .tabled) size n (rw (events-length log) at k)))
     (told (begins table) (eventsOf log) (begins-sound table (read .tabled)) n k)
 
--- the state that `engine::log::run` leaves by the first n records is the one after n events
+-- the state that `apply_engine::log::run` leaves by the first n records is the one after n events
 pub ran-front : (table log : List ℕ) → BothRead table log → (n : ℕ) → 20 * n ≤ length log
     → ran (begins table) (take (20 * n) log) .state ≡ afterFirst (begins table) (eventsOf log) n
 unfolding ran

@@ -1,7 +1,7 @@
 -- The first 20 n bytes of a log read whole, as its first n events: a record reads by its own 20 bytes, and those behind it do not matter.
 use Prim.Native.Nat.{ℕ, zero, suc, _+_, _*_, _≤_, _<_}
-use mathlib.Core.Path.{_≡_, refl, sym, ap, _∙_}
-use mathlib.Core.List.{List, [], _∷_, _++_}
+use mathlib.Core.Path.{_≡_, sym, ap, _∙_}
+use mathlib.Core.List.{List, _∷_, _++_}
 use native.Mathlib.Omega.{arith}
 use borrow.Author.Tests.{ne-eqb, le-ltb}
 use lib.ListN.{length, getD, take, drop, length-append, length-drop, take-append-drop, List·getD-append}
@@ -9,10 +9,10 @@ use lib.Seq.{take-add, take-append-le, drop-append-le, drop-at, length-take-le}
 use Rattle.event_reading.specs.declared.Event.{Event}
 use Rattle.event_reading.specs.declared.Reading.the-variants as R
 use Rattle.event_reading.specs.Record.{marks, eventOf, readRecord}
-use Rattle.event_logs.specs.Log.{readable, restOf, eventsIn, eventsOf}
+use Rattle.event_logs.specs.Log.{readable, restOf, eventsOf}
 use Rattle.event_logs.proofs.Records.{readable-fits}
 use Rattle.event_logs.proofs.Rests.{rest-end}
-use Rattle.event_logs.proofs.Logs.{goes-at, events-more, events-none}
+use Rattle.event_logs.proofs.Logs.{goes-at, events-more, events-length, events-empty}
 
 module _ (p q : List ℕ) (h : 20 ≤ length p) where
   byte-front : (k : ℕ) → k < 20 → getD (p ++ q) k 0 ≡ getD p k 0
@@ -38,18 +38,9 @@ module _ (p q : List ℕ) (h : 20 ≤ length p) where
         part-front 12 (omega arith),
       )
 
--- the events of a log are as many as its records that read
-pub events-length : (s : List ℕ) → length (eventsOf s) ≡ readable s
-unfolding eventsIn
-events-length s = go (readable s) s
-  where
-    go : (n : ℕ) (s : List ℕ) → length (eventsIn n s) ≡ n
-    go zero s = refl
-    go (suc n) s = ap suc (go n (drop 20 s))
-
 pub front-events : (n : ℕ) (s : List ℕ) → n ≤ readable s → eventsOf (take (20 * n) s) ≡ take n (eventsOf s)
 unfolding readRecord
-front-events zero s h = events-none [] (λ e q. let z : _≡_ {A = ℕ} 0 1 = cc in absurd (omega arith))
+front-events zero s h = events-empty
 front-events (suc n) s h =
     let g = goes-at 0 s (omega arith) in
     let f = take 20 s in

@@ -1,5 +1,5 @@
--- The first n events of a log, newest first, are the run whose state, chosen time and closed jobs the places of the log speak of; and what one
--- event more does. By induction on n.
+-- The first n events of a log, newest first, are the run whose state, chosen time and closed jobs the places of the log speak of; and what one event more
+-- does. By induction on n.
 use Prim.Native.Nat.{ℕ, zero, suc, _+_, min, _≤_, _<_}
 use mathlib.Core.Path.{_≡_, refl, sym, ap}
 use mathlib.Core.Bool.{Bool, true, false, cond}
@@ -11,10 +11,8 @@ use Rattle.laws.specs.Numbers.{oneIf}
 use Rattle.laws.proofs.Sums.{total-same}
 use Rattle.event_reading.specs.declared.Event.{Event}
 use Rattle.state_rules.specs.declared.State.{State}
-use Rattle.state_rules.specs.Sound.{StateSound}
 use Rattle.apply_events.specs.Apply.{applied}
 use Rattle.apply_events.specs.Log.{stateAfter}
-use Rattle.apply_events.proofs.Kept.{applied-sound}
 use Rattle.run_histories.specs.History.{Job, runState, runRecord, closes, closedJob, jobsOf, outcomesOf}
 use Rattle.run_histories.proofs.InOrder.{onto, told-in-order}
 use Rattle.guarantee.specs.ChosenTime.{standsAt, isChoice, chosenTime, openTime}
@@ -75,11 +73,6 @@ module _ (s : State) (es : List Event) where
       one-more false j jobs = append-nil (reverse (outcomesOf jobs))
 
 -- ---- one event more, in the order of the log
-
-pub after-sound : (s : State) (es : List Event) → StateSound s → StateSound (stateAfter s es)
-unfolding stateAfter
-after-sound s [] g = g
-after-sound s (e ∷ es) g = after-sound (applied s e .state) es (applied-sound s g e)
 
 pub after-more : (s : State) (es : List Event) (n : ℕ) → n < length es → afterFirst s es (suc n) ≡ applied (afterFirst s es n) (eventAt es n) .state
 unfolding stateAfter

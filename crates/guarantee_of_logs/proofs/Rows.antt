@@ -1,4 +1,4 @@
--- A row of outcomes oldest first is, turned round, a row of them newest first with as many misses.
+-- Any row of outcomes in the order of the log is a row newest first with as many misses: turning a list round keeps its count.
 use Prim.Native.Nat.{_+_, _≤_}
 use mathlib.Core.Path.{_≡_, refl, sym, ap, _∙_}
 use mathlib.Core.Bool.{Bool, true, false}

@@ -1,5 +1,5 @@
--- The state that stands at a tick is the last one whose clock is not after it, and its choice stands in the C function's answers: by induction on
--- the events, of which a refused one leaves the state and an accepted one moves the clock to its time.
+-- The state that stands at a tick is the last one whose clock is not after it, and its choice stands in the C function's answers: by induction on the events,
+-- of which a refused one leaves the state and an accepted one moves the clock to its time.
 use Prim.Native.Nat.{ℕ, zero, suc, _+_, _*_, _≤_, _<_}
 use mathlib.Core.Path.{_≡_, refl, sym, ap, _∙_}
 use mathlib.Core.Bool.{Bool, true, false, cond}
@@ -12,7 +12,7 @@ use borrow.Author.Tests.{leb-true, leb-false, lt-ltb, le-ltb}
 use lib.Dec.{leb, ltb}
 use lib.ListN.{length, take}
 use Rattle.laws.proofs.Answers.{exactly}
-use Rattle.laws.proofs.Tests.{true-not-false}
+use Rattle.laws.proofs.Tests.{true-not-false, cond-same}
 use Rattle.event_reading.specs.declared.Event.{Event}
 use Rattle.event_logs.specs.Log.{eventsOf}
 use Rattle.state_rules.specs.declared.State.{State}
@@ -20,6 +20,7 @@ use Rattle.state_rules.specs.Sound.{StateSound}
 use Rattle.apply_events.specs.declared.Applied.{Applied}
 use Rattle.apply_events.specs.Apply.{applied}
 use Rattle.apply_events.specs.Log.{stateAfter}
+use Rattle.apply_events.proofs.After.{after-sound}
 use Rattle.run_histories.specs.History.{accepts}
 use Rattle.run_histories.proofs.Taken.{Took, refusal, tick, release, completion, took}
 use Rattle.rig_codes.proofs.Starts.{begins-sound, begins-idle}
@@ -29,7 +30,7 @@ use Rattle.rig_codes.specs.Code.{begins}
 use Rattle.guarantee_of_logs.specs.Bytes.{BothRead}
 use Rattle.guarantee_of_logs.specs.Codes.{choiceCode, CodeTells, last-accepted, last-refused}
 use Rattle.guarantee_of_logs.specs.CodeTime.{standingCode}
-use Rattle.guarantee_of_logs.proofs.Places.{after-sound, after-more}
+use Rattle.guarantee_of_logs.proofs.Places.{after-more}
 use Rattle.guarantee_of_logs.proofs.Codes.{choice-small, whole-count, codes-of-logs}
 
 -- ---- the last whose clock is not after y
@@ -84,11 +85,7 @@ module _ (s : State) (es : List Event) (y : ℕ) where
   -- a state that is tried again changes nothing
   pub again : (n : ℕ) → cond (leb (afterFirst s es n .clock) y) (afterFirst s es n) (standingAt s es n y) ≡ standingAt s es n y
   unfolding standingAt stateAfter
-  again zero = go (leb (s .clock) y)
-    where
-      go : (b : Bool) → cond b s s ≡ s
-      go true = refl
-      go false = refl
+  again zero = cond-same (leb (s .clock) y) s
   again (suc n) = go (leb (afterFirst s es (suc n) .clock) y) (afterFirst s es (suc n)) (standingAt s es n y)
     where
       go : (b : Bool) (q r : State) → cond b q (cond b q r) ≡ cond b q r

@@ -1,5 +1,5 @@
--- The chosen time of a task's last job is counted off the C function's answers, and with it the premise: the states that stand from its release
--- on have its number, and those before it a smaller one. By induction on the events.
+-- The chosen time of a task's last job is counted off the C function's answers, and with it the premise: the states that stand from its release on have its
+-- number, and those before it a smaller one. By induction on the events.
 use Prim.Native.Nat.{ℕ, zero, suc, _+_, _*_, min, _≤_, _<_}
 use mathlib.Core.Path.{_≡_, refl, sym, ap, subst, _∙_}
 use mathlib.Core.Bool.{Bool, true, false, cond}
@@ -12,7 +12,7 @@ use lib.Dec.{eqb, leb}
 use lib.ListN.{length, getD, set}
 use Rattle.laws.specs.Numbers.{oneIf}
 use Rattle.laws.proofs.Sums.{total-same}
-use Rattle.laws.proofs.Tests.{same-test}
+use Rattle.laws.proofs.Tests.{same-test, cond-same}
 use Rattle.event_reading.specs.declared.Event.{Event}
 use Rattle.table_rules.specs.declared.Table.{Table}
 use Rattle.table_rules.specs.declared.Answer.the-variants.{Accepted}
@@ -36,7 +36,7 @@ use Rattle.run_histories.proofs.Steps.{closed-same, cleared-same, expired-same}
 use Rattle.run_histories.proofs.Taken.{passed, Took, refusal, tick, release, completion, took, refused-leaves, all-passed, set-there, set-elsewhere}
 use Rattle.run_histories.proofs.Reached.{Reached, room-for, reached}
 use Rattle.guarantee.specs.ChosenTime.{isChoice}
-use Rattle.rig_codes.proofs.Starts.{answer-is, begins-sound}
+use Rattle.rig_codes.proofs.Starts.{begins-sound}
 use Rattle.guarantee_of_logs.specs.Places.{eventAt, afterFirst, recordAfter, acceptedAt}
 use Rattle.guarantee_of_logs.specs.ChosenTime.{standingAt, chosenAfter, openAfter}
 use Rattle.guarantee_of_logs.specs.Premise.{LogObeys}
@@ -173,16 +173,11 @@ tick-is q i j r y c h k from before = go (decLe r y)
     by-found true = same-test (eqb (chosen q .at) i)
     by-found false = sym (ne-eqb 16 i (λ z. omega arith))
 
-    never : (a b : Bool) → cond a (cond b false false) false ≡ false
-    never true true = refl
-    never true false = refl
-    never false b = refl
-
     go : Dec (r ≤ y) → isChoice q i j ≡ cond (leb r y) (eqb c i) false
     go (yes p) = rw (le-leb r y p, eq-eqb (recordAt q i .released) j (from p), ← k) (by-found (chosen q .found))
     go (no p) =
         rw (lt-leb r y (omega arith), ne-eqb (recordAt q i .released) j (λ z. omega (arith, before (omega arith))))
-        (never (chosen q .found) (eqb (chosen q .at) i))
+        (rw (cond-same (eqb (chosen q .at) i) false) (cond-same (chosen q .found) false))
 
 module _ (table log : List ℕ) (read : BothRead table log) (size : length log ≤ 65536) where
   abbrev start : State
@@ -195,7 +190,7 @@ module _ (table log : List ℕ) (read : BothRead table log) (size : length log �
   unfolding chosenAfter codeTime
   time-is n i x h b =
       let r = recordAfter start events n i in
-      let good = read-good table (sym (answer-is table) ∙ read .tabled) in
+      let good = read-good table (read .tabled) in
       total-same _ _ (min x (r .last + r .task .d))
       (λ y p.
       let f = since (readTable table .table) good events i b y n (omega (arith, whole-count log (read .whole))) in

@@ -1,4 +1,4 @@
--- Rules that name one answer, which is computed: an answer is the computed one exactly when its rule holds, and no two answers have a rule.
+-- A rule that holds of the computed answer and of no other tells exactly which answer that is: from these two facts alone.
 use mathlib.Core.Path.{_≡_, sym, subst, _∙_}
 use mathlib.Core.Logic.{_↔_}
 

@@ -1,11 +1,11 @@
--- A row that is filled from the front holds f below n and the old row from n on: by induction on n.
+-- What a row holds that is stored to at a place, or filled from the front up to a place, and what its front and its rest hold: by induction on the place.
 use Prim.Native.Nat.{ℕ, zero, suc, _≤_, _<_}
-use mathlib.Core.Path.{_≡_, refl, sym, _∙_}
-use mathlib.Core.List.{List}
+use mathlib.Core.Path.{_≡_, refl, sym, _∙_, ap}
+use mathlib.Core.List.{List, [], _∷_}
 use native.Mathlib.Nat.{not-suc-le-zero}
 use native.Mathlib.Decide.{ℕ-discrete}
 use native.Mathlib.Omega.{arith}
-use lib.ListN.{length, getD, set, length-set}
+use lib.ListN.{length, getD, set, length-set, take, drop}
 use lib.Seq.{getD-set-same, getD-set-other, ext-getD}
 use Rattle.laws.specs.Stores.{filled}
 
@@ -43,3 +43,28 @@ module _ {A : Type 0} (s l : List A) (d : A) where
       let g : ℕ → A = λ i. getD s i d in
       let n : length (filled g (length s) l) ≡ length s = length-filled g l d (length s) ∙ sym e in
       ext-getD d (filled g (length s) l) s n (λ i h. filled-below g l d (length s) i (omega arith) (rw n at h))
+
+-- the front and the rest of a row that is stored to
+module _ {A : Type 0} where
+  pub take-set : (n k : ℕ) (l : List A) (x : A) → take n (set l k x) ≡ set (take n l) k x
+  take-set zero k l x = refl
+  take-set (suc n) k [] x = refl
+  take-set (suc n) zero (y ∷ l) x = refl
+  take-set (suc n) (suc k) (y ∷ l) x = ap (λ (r : List A). y ∷ r) (take-set n k l x)
+
+  pub drop-set : (n k : ℕ) (l : List A) (x : A) → k < n → drop n (set l k x) ≡ drop n l
+  drop-set zero k l x h = absurd (not-suc-le-zero h)
+  drop-set (suc n) k [] x h = refl
+  drop-set (suc n) zero (y ∷ l) x h = refl
+  drop-set (suc n) (suc k) (y ∷ l) x h = drop-set n k l x (omega arith)
+
+  module _ (f : ℕ → A) (l : List A) (n : ℕ) where
+    pub take-filled : (m : ℕ) → take n (filled f m l) ≡ filled f m (take n l)
+    unfolding filled
+    take-filled zero = refl
+    take-filled (suc m) = take-set n m (filled f m l) (f m) ∙ ap (λ (r : List A). set r m (f m)) (take-filled m)
+
+    pub drop-filled : (m : ℕ) → m ≤ n → drop n (filled f m l) ≡ drop n l
+    unfolding filled
+    drop-filled zero h = refl
+    drop-filled (suc m) h = drop-set n m (filled f m l) (f m) h ∙ drop-filled m (omega arith)

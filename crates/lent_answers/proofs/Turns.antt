@@ -1,4 +1,4 @@
--- An event in place comes to what the engine's `applied` says of the row's state: by the ruling on the event's own record, and by the row settled position by position.
+-- An event in place comes to what `applied` says of the row's state: by the ruling on the event's own record, and the row settled place by place.
 use Prim.Native.Nat.{ℕ, min, _<_}
 use mathlib.Core.Path.{_≡_, refl, sym, ap, subst, _∙_}
 use mathlib.Core.Bool.{Bool, true, false, not, cond}
@@ -8,7 +8,7 @@ use native.Mathlib.Omega.{arith}
 use borrow.Author.Tests.{eqb-true, eqb-false}
 use lib.Dec.{T, eqb}
 use lib.ListN.{length, getD, set, length-set}
-use Rattle.laws.proofs.Tests.{tells-true}
+use Rattle.laws.proofs.Tests.{tells-true, test-held, test-failed}
 use Rattle.event_reading.specs.declared.Event.{Event}
 use Rattle.task_records.specs.declared.Record.{Record}
 use Rattle.task_steps.specs.Opening.{noRecord}
@@ -45,7 +45,8 @@ row-step l c t = refl
 pub chosen-within : (zs : List Record) (best : Best) → 0 < length zs → best ≡ bestTo zs (length zs) → best .at < length zs
 chosen-within zs best h e = subst (λ (b : Best). b .at < length zs) (sym e) (best-within zs (length zs) h)
 
-pub chosen-told : (zs : List Record) (best : Best) → best ≡ bestTo zs (length zs) → (r : Answer) → r ≡ toldOf best (getD zs (best .at) noRecord .class) → r ≡ rowAnswer zs
+pub chosen-told : (zs : List Record) (best : Best) → best ≡ bestTo zs (length zs) → (r : Answer)
+    → r ≡ toldOf best (getD zs (best .at) noRecord .class) → r ≡ rowAnswer zs
 chosen-told zs best e r d = d ∙ ap (λ (b : Best). toldOf b (getD zs (b .at) noRecord .class)) e
 
 -- ---- the event as a whole
@@ -103,57 +104,58 @@ module _ (l : List Record) (c : ℕ) (e : Event) where
           → Settles (cond b (ruled c (length l) (getD l (seatIn l e) noRecord) e) unsound .after)
       go true h f =
           let a = accepted-by s e (decided s e (state-tells s .holds h)) f in
-          settled-row (ruled c (length l) (getD l (seatIn l e) noRecord) e .after) (state-tells s .holds h) (record { below = a .below; prompt = a .prompt; same = a .same })
+          settled-row (ruled c (length l) (getD l (seatIn l e) noRecord) e .after) (state-tells s .holds h)
+          (record { below = a .below; prompt = a .prompt; same = a .same })
       go false h f = absurd (omega (arith, f))
 
 -- ---- as the walks cite it: a test of the code is a Bool b with T b or T (not b)
-
-held : (b : Bool) → T b → b ≡ true
-held true t = refl
-held false t = absurd t
-
-failed : (b : Bool) → T (not b) → b ≡ false
-failed true t = absurd t
-failed false t = refl
 
 module _ (l : List Record) (c : ℕ) (e : Event) where
   abbrev here : Ruling
   here = ruled c (length l) (getD l (seatIn l e) noRecord) e
 
   pub sound-here : (b : Bool) → b ≡ stateHolds (stateOf l c) → T b → 0 < length l
-  sound-here b h t = holds-some l c e (sym h ∙ held b t)
+  sound-here b h t = holds-some l c e (sym h ∙ test-held b t)
 
   pub ruled-sound : (b : Bool) → b ≡ stateHolds (stateOf l c) → T b → (r : Ruling) → r ≡ here → r ≡ ruledRow l c e
-  ruled-sound b h t r z = z ∙ ap (λ (y : Bool). cond y here unsound) (sym (held b t) ∙ h)
+  ruled-sound b h t r z = z ∙ ap (λ (y : Bool). cond y here unsound) (sym (test-held b t) ∙ h)
 
   pub ruled-unsound : (b : Bool) → b ≡ stateHolds (stateOf l c) → T (not b) → (r : Ruling) → r ≡ unsound → r ≡ ruledRow l c e
-  ruled-unsound b h t r z = z ∙ ap (λ (y : Bool). cond y here unsound) (sym (failed b t) ∙ h)
+  ruled-unsound b h t r z = z ∙ ap (λ (y : Bool). cond y here unsound) (sym (test-failed b t) ∙ h)
 
   -- what `apply_in` says of its result and of the row at exit
   abbrev pub TurnSays : Turn → List Record → Type 0
-  TurnSays u zs = (u .answer ≡ applied (stateOf l c) e .answer) × ((u .clock ≡ applied (stateOf l c) e .state .clock) × (zs ≡ applied (stateOf l c) e .state .records))
+  TurnSays u zs =
+      (u .answer ≡ applied (stateOf l c) e .answer) × ((u .clock ≡ applied (stateOf l c) e .state .clock) × (zs ≡ applied (stateOf l c) e .state .records))
 
   module _ (r : Ruling) (q : r ≡ ruledRow l c e) where
     number : r .refusal ≡ ruledRow l c e .refusal
     number = ap (λ (x : Ruling). x .refusal) q
 
     settles : T (eqb (r .refusal) 0) → Settles l c e (r .after)
-    settles t = subst (λ (x : Ruling). Settles l c e (x .after)) (sym q) (turn-accepted l c e (sym number ∙ eqb-true (r .refusal) 0 (held (eqb (r .refusal) 0) t)))
+    settles t =
+        subst (λ (x : Ruling). Settles l c e (x .after)) (sym q) (turn-accepted l c e (sym number ∙ eqb-true (r .refusal) 0 (test-held (eqb (r .refusal) 0) t)))
 
     pub accepted-some : T (eqb (r .refusal) 0) → 0 < length l
     accepted-some t = settles t .some
 
-    pub says-accepted : T (eqb (r .refusal) 0) → (a : Answer) (zs : List Record) → (a ≡ rowAnswer zs) × (zs ≡ settledRow l e (r .after)) → (u : Turn) → u ≡ acceptedTurn a e → TurnSays u zs
+    pub says-accepted : T (eqb (r .refusal) 0) → (a : Answer) (zs : List Record) → (a ≡ rowAnswer zs) × (zs ≡ settledRow l e (r .after)) → (u : Turn)
+        → u ≡ acceptedTurn a e → TurnSays u zs
     says-accepted t a zs z u w =
         let same = settles t .same in
-        let told : a ≡ rowAnswer (settledRow l e (r .after)) = z .0 ∙ ap rowAnswer (z .1) in
-        (ap (λ (x : Turn). x .answer) w ∙ told ∙ sym (ap (λ (x : Applied). x .answer) same), (ap (λ (x : Turn). x .clock) w ∙ sym (ap (λ (x : Applied). x .state .clock) same), z .1 ∙ sym (ap (λ (x : Applied). x .state .records) same)))
+        let told : a ≡ rowAnswer (settledRow l e (r .after)) = z .0 ∙ ap rowAnswer (z .1) in (
+          ap (λ (x : Turn). x .answer) w ∙ told ∙ sym (ap (λ (x : Applied). x .answer) same),
+          (ap (λ (x : Turn). x .clock) w ∙ sym (ap (λ (x : Applied). x .state .clock) same), z .1 ∙ sym (ap (λ (x : Applied). x .state .records) same)),
+        )
 
     pub says-refused : T (not (eqb (r .refusal) 0)) → (u : Turn) → u ≡ refusedTurn r c → TurnSays u l
     says-refused t u w =
-        let f : r .refusal ≡ 0 → ⊥ = eqb-false (r .refusal) 0 (failed (eqb (r .refusal) 0) t) in
-        let same : applied (stateOf l c) e ≡ refused (stateOf l c) (r .refusal) = turn-refused l c e (λ z. f (number ∙ z)) ∙ ap (refused (stateOf l c)) (sym number) in
-        (ap (λ (x : Turn). x .answer) w ∙ sym (ap (λ (x : Applied). x .answer) same), (ap (λ (x : Turn). x .clock) w ∙ sym (ap (λ (x : Applied). x .state .clock) same), sym (ap (λ (x : Applied). x .state .records) same)))
+        let f : r .refusal ≡ 0 → ⊥ = eqb-false (r .refusal) 0 (test-failed (eqb (r .refusal) 0) t) in
+        let same : applied (stateOf l c) e ≡ refused (stateOf l c) (r .refusal) =
+        turn-refused l c e (λ z. f (number ∙ z)) ∙ ap (refused (stateOf l c)) (sym number) in (
+          ap (λ (x : Turn). x .answer) w ∙ sym (ap (λ (x : Applied). x .answer) same),
+          (ap (λ (x : Turn). x .clock) w ∙ sym (ap (λ (x : Applied). x .state .clock) same), sym (ap (λ (x : Applied). x .state .records) same)),
+        )
 
   -- so a refused event leaves the row and the clock as lent
   pub refused-as-lent : (m : ℕ) → (u : Turn) (zs : List Record) → TurnSays u zs → u .answer ≡ Refused m → (u .clock ≡ c) × (zs ≡ l)

@@ -9,6 +9,7 @@ use native.Mathlib.Omega.{arith}
 use borrow.Author.Tests.{lt-ltb, le-ltb, ltb-true, ltb-false}
 use lib.Dec.{ltb}
 use lib.ListN.{length, drop}
+use Rattle.laws.proofs.Tests.{impossible}
 use Rattle.listing_text.specs.Listing.{listingOf}
 use Rattle.listing_text.proofs.Fits.{listing-fits}
 use Rattle.listing_of_input.specs.declared.Listing.{Listing}
@@ -55,15 +56,19 @@ list-numbers s out = go (lists-is s out)
     go (short h) = inr refl
     go (whole h) = inl refl
 
-said-text : {s out t : List ℕ} {r : Listing} (n : ℕ) → Lists s out r t → listSaid r .values ≡ n ∷ [] → (length (listingOf s) ≤ length out) × (n ≡ length (listingOf s))
-said-text n (short h) e = let z : _≡_ {A = ℕ} 0 1 = cc in absurd (omega arith)
+said-text : {s out t : List ℕ} {r : Listing} (n : ℕ) → Lists s out r t → listSaid r .values ≡ n ∷ []
+    → (length (listingOf s) ≤ length out) × (n ≡ length (listingOf s))
+said-text n (short h) e = impossible cc
 said-text n (whole h) e = (h, cc)
 
 -- the text is told, with the bytes that it takes, exactly when it is not longer than what is lent
 pub list-text : (s out : List ℕ) (n : ℕ)
     → listSaid (listAnswer s (length out)) .values ≡ n ∷ [] ↔ (length (listingOf s) ≤ length out) × (n ≡ length (listingOf s))
-list-text s out n =
-    (said-text n (lists-is s out), λ h. ap (λ (r : Listing). listSaid r .values) (sym (lists-only {s = s} {out = out} (whole (h .0)) .0)) ∙ ap (λ (k : ℕ). k ∷ []) (sym (h .1)))
+list-text s out n = (
+  said-text n (lists-is s out),
+  λ h. ap (λ (r : Listing). listSaid r .values) (sym (lists-only {s = s} {out = out} (whole (h .0)) .0))
+      ∙ ap (λ (k : ℕ). k ∷ []) (sym (h .1)),
+)
 
 refused-kept : {s out t : List ℕ} {n : ℕ} → Lists s out (Refused n) t → t ≡ out
 refused-kept (short h) = refl
@@ -78,7 +83,7 @@ unfolding listAnswer
 text-within s lent n e = go (ltb lent (length (listingOf s))) refl e
   where
     go : (b : Bool) → ltb lent (length (listingOf s)) ≡ b → cond b (Refused 14) (Text (length (listingOf s))) ≡ Text n → n ≤ lent
-    go true q f = let z : _≡_ {A = ℕ} 0 1 = cc in absurd (omega arith)
+    go true q f = impossible cc
     go false q f = let y : length (listingOf s) ≡ n = cc in omega (arith, ltb-false lent (length (listingOf s)) q)
 
 -- nothing is refused where the room for every listing is lent

@@ -61,7 +61,8 @@ fn written(out: &mut [u8], input: &[u8]) -> usize
 
 // The listing of an input in lent bytes. It is made in bytes of its own first, so that bytes that are too short for it are left as they were.
 pub fn list(input: &[u8], out: &mut [u8]) -> Listing
-    ensures { λ r. ⌜ (r ≡ listAnswer (now (input .entry)) (length (now (out .entry)))) × (now (out .exit) ≡ listedInto (now (input .entry)) (now (out .entry))) ⌝ }
+    ensures { λ r. ⌜ (r ≡ listAnswer (now (input .entry)) (length (now (out .entry))))
+        × (now (out .exit) ≡ listedInto (now (input .entry)) (now (out .entry))) ⌝ }
 {
     let mut text = [0u8; ROOM];
     let end = written(&mut text, input);

@@ -1,12 +1,12 @@
 -- No listing is longer than the room that is asked for: each line has a most, and there are no more lines than tasks and records.
 use Prim.Native.Nat.{ℕ, zero, suc, _+_, _*_, _≤_, _<_}
-use mathlib.Core.Path.{_≡_, refl, ap, _∙_}
+use mathlib.Core.Path.{_≡_, refl}
 use mathlib.Core.List.{List, [], _∷_}
 use native.Mathlib.Nat.{le-refl}
 use native.Mathlib.Omega.{arith}
 use borrow.Author.Tests.{ltb-false}
 use lib.Dec.{ltb}
-use lib.ListN.{length, drop, length-append, length-drop}
+use lib.ListN.{length, length-append, length-drop}
 use Rattle.laws.proofs.Tests.{by-test}
 use Rattle.text_writing.proofs.Decimals.{decimal-short}
 use Rattle.table_rules.specs.declared.Answer.{Answer}
@@ -19,6 +19,7 @@ use Rattle.task_thresholds.specs.Thresholds.{wOf, hOf}
 use Rattle.table_rules.proofs.Exactly.{judged-accepted}
 use Rattle.table_rules.proofs.Ruling.{fault-none}
 use Rattle.table_reading.specs.Table.{readTable}
+use Rattle.table_reading.proofs.Given.{read-good}
 use Rattle.bound_demand.specs.Above.{taskAt}
 use Rattle.bound_one.specs.declared.Bound.{Bound}
 use Rattle.bound_one.specs.declared.Bound.the-variants as Bound
@@ -28,10 +29,11 @@ use Rattle.event_reading.specs.declared.Reading.{Reading}
 use Rattle.event_reading.specs.declared.Reading.the-variants as R
 use Rattle.event_reading.specs.Record.{readRecord}
 use Rattle.event_reading.specs.Answer.{readSaid}
-use Rattle.event_logs.specs.Log.{readable, restOf, eventsIn, eventsOf}
+use Rattle.event_logs.specs.Log.{readable, restOf, eventsOf}
 use Rattle.event_logs.specs.Ending.{endedBy}
 use Rattle.event_logs.proofs.Records.{readable-fits}
 use Rattle.event_logs.proofs.Rests.{rest-most}
+use Rattle.event_logs.proofs.Logs.{events-length}
 use Rattle.task_records.specs.declared.Record.{Record}
 use Rattle.task_records.specs.Window.{windowOf}
 use Rattle.task_soundness.specs.Counts.{openOf}
@@ -42,17 +44,17 @@ use Rattle.state_rules.specs.State.{recordAt, freshState}
 use Rattle.apply_events.specs.declared.Answer.{Answer as Said}
 use Rattle.apply_events.specs.declared.Answer.the-variants as Said
 use Rattle.apply_events.specs.Apply.{applied}
-use Rattle.apply_events.proofs.Frame.{count-stays}
 use Rattle.apply_events.proofs.Kept.{applied-sound}
 use Rattle.listing_text.specs.TaskLines.{boundText, taskLine, lastLine}
 use Rattle.listing_text.specs.TableLines.{taskLines, lastLines}
 use Rattle.listing_text.specs.EventLines.{answerText, eventLine}
 use Rattle.listing_text.specs.RefusalLines.{refusedLine}
 use Rattle.apply_events.specs.Log.{stateAfter}
+use Rattle.apply_events.proofs.After.{after-sound, after-count}
 use Rattle.listing_text.specs.LogLines.{eventLines, stopBy, stopText}
 use Rattle.listing_text.specs.Listing.{tableListing, listedBy, listed, tableThere, tableBytes, eventBytes, listingOf}
-use Rattle.listing_text.proofs.Input.{read-good}
-use Rattle.listing_text.proofs.Small.{refusal-small, w-digits, h-digits, task-ruled, bound-small, Small, applied-small, met-small, missed-small, broken-small, open-small, window-small, fresh-state-sound}
+use Rattle.listing_text.proofs.Small.{refusal-small, w-digits, h-digits, task-ruled, bound-small, Small, applied-small, met-small, missed-small}
+use Rattle.listing_text.proofs.Small.{broken-small, open-small, window-small, fresh-state-sound}
 
 -- ---- each line
 
@@ -113,16 +115,6 @@ events-most i s (e ∷ es) p h =
     rw (length-append (eventLine i (applied s e .answer)) (eventLines (i + 1) (applied s e .state) es))
     (omega (arith, events-most (i + 1) (applied s e .state) es (applied-sound s p e) (omega arith)))
 
-after-sound : (s : State) (es : List Event) → StateSound s → StateSound (stateAfter s es)
-unfolding stateAfter
-after-sound s [] p = p
-after-sound s (e ∷ es) p = after-sound (applied s e .state) es (applied-sound s p e)
-
-after-count : (s : State) (es : List Event) → stateAfter s es .count ≡ s .count
-unfolding stateAfter
-after-count s [] = refl
-after-count s (e ∷ es) = after-count (applied s e .state) es ∙ count-stays s e
-
 lasts-most : (s : State) → StateSound s → (n : ℕ) → n ≤ s .count → length (lastLines s n) ≤ 85 * n
 unfolding lastLines
 lasts-most s p zero h = omega arith
@@ -133,18 +125,13 @@ lasts-most s p (suc n) h =
 
 -- ---- the listing
 
-events-count : (n : ℕ) (s : List ℕ) → length (eventsIn n s) ≡ n
-unfolding eventsIn
-events-count zero s = refl
-events-count (suc n) s = ap suc (events-count n (drop 20 s))
-
 table-most : (t : Table) → judged t ≡ Accepted → (log : List ℕ) → length log ≤ 65536 → length (tableListing t log) ≤ 131072
 unfolding tableListing stopText
 table-most t good log h =
     let c = judged-accepted t .0 good .0 .most in
     let f = fresh-state-sound t good in
     let r = readable-fits log in
-    let n = events-count (readable log) log in
+    let n = events-length log in
     let a = tasks-most t good (t .count) (le-refl (t .count)) in
     let b = events-most 1 (freshState t) (eventsOf log) f (omega arith) in
     let o = stop-most (readRecord (restOf log)) (20 * readable log) (rest-most log) (omega arith) in

@@ -11,7 +11,7 @@ use lib.Dec.{eqb, leb, ltb}
 use lib.ListN.{length, replicate}
 use Rattle.laws.proofs.Numbers.{ceiling-small}
 use Rattle.laws.proofs.Stores.{filled-below}
-use Rattle.laws.proofs.Tests.{by-test}
+use Rattle.laws.proofs.Tests.{impossible, by-test}
 use Rattle.table_rules.specs.declared.Answer.the-variants.{Accepted, Refused}
 use Rattle.table_rules.specs.declared.Table.{Table}
 use Rattle.table_rules.specs.declared.Task.{Task}
@@ -22,9 +22,10 @@ use Rattle.table_rules.proofs.Exactly.{judged-accepted}
 use Rattle.table_rules.proofs.Faults.{found-then}
 use Rattle.task_thresholds.proofs.Paper.{w-small, h-some}
 use Rattle.table_rules.proofs.Ruling.{fault-none}
-use Rattle.table_reading.specs.Table.{recordAt, recordFaultAt, bytesHold, tableOf, readAnswer, readTable}
+use Rattle.table_reading.specs.Table.{recordAt, recordFaultAt, bytesHold, readAnswer, readTable}
 use Rattle.table_reading.proofs.Exactly.{whole-tells, length-at}
 use Rattle.table_reading.proofs.Records.{record-among}
+use Rattle.table_reading.proofs.Given.{answer-is}
 use Rattle.bound_search.specs.declared.Found.{Found}
 use Rattle.bound_search.specs.declared.Found.the-variants as Found
 use Rattle.bound_demand.specs.Above.{taskAt}
@@ -56,13 +57,12 @@ use Rattle.apply_events.specs.declared.Applied.{Applied}
 use Rattle.apply_events.specs.Apply.{answerOf, ticked, releasedAt, completedAt, byKind, timed, acted, applied}
 use Rattle.task_steps.specs.Own.{tooSoon, isOpen}
 use Rattle.apply_events.proofs.Kept.{applied-sound}
-use Rattle.listing_text.proofs.Input.{beside-answer}
 
 -- ---- the table's refusal
 
 pub refusal-small : (s : List ℕ) (x p : ℕ) → readTable s .answer ≡ Refused x p → (x < 100) × (p < 100)
 unfolding readTable readAnswer
-refusal-small s x p e = go (bytesHold s) refl (sym (beside-answer (readAnswer s) (tableOf s (length s / 16))) ∙ e)
+refusal-small s x p e = go (bytesHold s) refl (sym (answer-is s) ∙ e)
   where
     go : (b : Bool) → bytesHold s ≡ b → cond b (firstFault (recordFaultAt s) (length s / 16)) (Refused 1 0) ≡ Refused x p → (x < 100) × (p < 100)
     go true h q =
@@ -106,7 +106,7 @@ module _ (t : Table) (good : judged t ≡ Accepted) (i : ℕ) (h : i < t .count)
           let b = bound-is t i x .0 q in
           let u = fault-none (taskAt t i) .0 task-ruled .0 in
           omega (arith, b .within, u .spaced, u .limit)
-      go Found.Nothing q p = let z : _≡_ {A = ℕ} 0 1 = cc in absurd (omega arith)
+      go Found.Nothing q p = impossible cc
 
 -- ---- what an event answers
 
@@ -145,15 +145,18 @@ module _ (s : State) (e : Event) where
       by-test Fair (eqb (e .kind) 0) _ _ (λ q. answer-small _)
       (λ q.
       by-test Fair (eqb (e .kind) 1) _ _
-      (λ f. by-test Fair (leb (s .count) (e .task)) _ _ (λ x y. omega arith) (λ x. by-test Fair (tooSoon after-1 (e .time)) _ _ (λ z y. omega arith) (λ z. answer-small _)))
-      (λ f. by-test Fair (leb (s .count) (e .task)) _ _ (λ x y. omega arith) (λ x. by-test Fair (isOpen after-1 (e .job)) _ _ (λ z. answer-small _) (λ z y. omega arith))))
+      (λ f. by-test Fair (leb (s .count) (e .task)) _ _ (λ x y. omega arith)
+      (λ x. by-test Fair (tooSoon after-1 (e .time)) _ _ (λ z y. omega arith) (λ z. answer-small _)))
+      (λ f. by-test Fair (leb (s .count) (e .task)) _ _ (λ x y. omega arith)
+      (λ x. by-test Fair (isOpen after-1 (e .job)) _ _ (λ z. answer-small _) (λ z y. omega arith))))
 
   acted-fair : Fair (acted s e)
   unfolding acted timed faultOf
   acted-fair =
       by-test (λ (n : ℕ). Fair (cond (eqb n 0) (timed s e) (record { answer = Said.Refused n; state = s }))) (ltb 2 (e .kind)) 7 (cond (zeroes e) 0 8)
       (λ q y. omega arith)
-      (λ q. by-test (λ (n : ℕ). Fair (cond (eqb n 0) (timed s e) (record { answer = Said.Refused n; state = s }))) (zeroes e) 0 8 (λ z. timed-fair) (λ z y. omega arith))
+      (λ q. by-test (λ (n : ℕ). Fair (cond (eqb n 0) (timed s e) (record { answer = Said.Refused n; state = s }))) (zeroes e) 0 8
+      (λ z. timed-fair) (λ z y. omega arith))
     where
       timed-fair : Fair (timed s e)
       timed-fair =

@@ -1,4 +1,4 @@
--- What the parts of the listing say in the words of the crates below: the bound, the state at the end, the stop, and that nothing is listed twice or not at all.
+-- The bound, the state at the end, the stop and the one line of a refused input are what the crates below define: by the tests of the listing.
 use Prim.Native.Nat.{ℕ, _*_, _≤_, _<_}
 use mathlib.Core.Path.{_≡_, _∙_}
 use mathlib.Core.Bool.{true, false}
@@ -79,6 +79,7 @@ module _ (s : List ℕ) (h : length s ≤ 65536) where
   unfolding listingOf listed
   table-refused n p e q = rw (le-ltb 65536 (length s) h, e, q)
 
-  pub table-listed : tableThere s ≡ true → readTable (tableBytes s) .answer ≡ Accepted → listingOf s ≡ tableListing (readTable (tableBytes s) .table) (eventBytes s)
+  pub table-listed : tableThere s ≡ true → readTable (tableBytes s) .answer ≡ Accepted
+      → listingOf s ≡ tableListing (readTable (tableBytes s) .table) (eventBytes s)
   unfolding listingOf listed
   table-listed e q = rw (le-ltb 65536 (length s) h, e, q)

@@ -1,5 +1,5 @@
--- What an event of a log can be answered in a run: one of the tasks, none, or 9 to 12. 15 is out because every event keeps a sound state
--- sound, 7 and 8 because what reads obeys the rules.
+-- What an event of a log can be answered in a run: one of the tasks, none, or 9 to 12. 15 is out because every event keeps a sound state sound, 7 and 8
+-- because what reads obeys the rules.
 use Prim.Native.Nat.{ℕ, _^_, min, _≤_, _<_}
 use mathlib.Core.Path.{_≡_, refl, subst, _∙_}
 use mathlib.Core.Bool.{true}

@@ -1,5 +1,5 @@
--- A case is the rig's exactly when the rules' rule for it holds: the tests decide the rules in their order, and the last event of a log
--- is the one that is applied last.
+-- A case is the rig's exactly when the rules' rule for it holds: the tests decide the rules in their order, and the last event of a log is the one that is
+-- applied last.
 use Prim.Native.Nat.{ℕ, zero, suc, _+_, _*_, _≤_, _<_}
 use mathlib.Core.Path.{_≡_, refl, sym, ap, _∙_}
 use mathlib.Core.List.{List, [], _∷_, _++_}
@@ -8,6 +8,7 @@ use native.Mathlib.Decide.{decLt}
 use native.Mathlib.Omega.{arith}
 use lib.ListN.{length}
 use Rattle.laws.proofs.Answers.{exactly, one-answer}
+use Rattle.laws.proofs.Tests.{impossible}
 use Rattle.table_rules.specs.declared.Answer as D
 use Rattle.table_rules.specs.declared.Answer.the-variants as T
 use Rattle.table_reading.specs.Table.{readTable}
@@ -53,7 +54,7 @@ over-last a (f ∷ es) e = over-last (applied (a .state) f) es e
 none-read : (n : ℕ) (s : List ℕ) → eventsIn n s ≡ [] → n ≡ 0
 unfolding eventsIn
 none-read zero s e = refl
-none-read (suc n) s e = let z : _≡_ {A = ℕ} 0 1 = cc in absurd (omega arith)
+none-read (suc n) s e = impossible cc
 
 -- a log that was read to its end and has no events has no bytes
 no-bytes : (log : List ℕ) → readRecord (restOf log) ≡ R.End → eventsOf log ≡ [] → length log ≡ 0

@@ -1,34 +1,24 @@
 -- A table that was read starts in its fresh state, which is sound and idle: reading has judged it.
-use Prim.Native.Nat.{ℕ, _/_}
-use mathlib.Core.Path.{_≡_, refl, sym, _∙_}
+use Prim.Native.Nat.{ℕ}
+use mathlib.Core.Path.{_≡_}
 use mathlib.Core.Bool.{false}
 use mathlib.Core.List.{List}
-use lib.ListN.{length}
-use Rattle.table_rules.specs.declared.Answer as D
-use Rattle.table_rules.specs.declared.Answer.the-variants.{Accepted, Refused}
+use Rattle.table_rules.specs.declared.Answer.the-variants.{Accepted}
 use Rattle.table_rules.specs.declared.Table.{Table}
 use Rattle.table_rules.specs.Judging.{judged}
-use Rattle.table_reading.specs.Table.{tableOf, beside, readAnswer, readTable}
+use Rattle.table_reading.specs.Table.{readTable}
 use Rattle.table_reading.proofs.Given.{read-good}
 use Rattle.state_rules.specs.State.{freshState, started}
 use Rattle.state_rules.specs.Sound.{StateSound}
 use Rattle.state_rules.specs.Choice.{chosen}
 use Rattle.state_rules.proofs.Starting.{start-sound, start-idle}
 
-pub answer-is : (s : List ℕ) → readTable s .answer ≡ readAnswer s
-unfolding readTable
-answer-is s = go (readAnswer s)
-  where
-    go : (a : D.Answer) → beside a (tableOf s (length s / 16)) .answer ≡ a
-    go Accepted = refl
-    go (Refused n p) = refl
-
 module _ (s : List ℕ) (good : readTable s .answer ≡ Accepted) where
   abbrev table : Table
   table = readTable s .table
 
   judged-good : judged table ≡ Accepted
-  judged-good = read-good s (sym (answer-is s) ∙ good)
+  judged-good = read-good s good
 
   pub start-fresh : started table .state ≡ freshState table
   unfolding started

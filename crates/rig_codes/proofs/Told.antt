@@ -1,5 +1,5 @@
--- What a C caller can tell from the code: which case it is, since the cases have ranges apart, and of a refusal whether it is the table's
--- (1 to 4), the reading's (5 to 8) or the last event's (9 to 12). 47 never comes.
+-- What a C caller can tell from the code: which case it is, since the cases have ranges apart, and of a refusal whether it is the table's (1 to 4), the
+-- reading's (5 to 8) or the last event's (9 to 12). 47 never comes.
 use Prim.Native.Nat.{ℕ, zero, suc, _+_, _≤_, _<_}
 use mathlib.Core.Path.{_≡_, refl, sym, ap, _∙_}
 use mathlib.Core.List.{List, [], _∷_, _++_}
@@ -7,9 +7,11 @@ use mathlib.Core.Logic.{_⊎_, inl, inr}
 use native.Mathlib.Omega.{arith}
 use borrow.Author.Tests.{lt-ltb, le-ltb, ne-eqb}
 use lib.ListN.{length}
+use Rattle.laws.proofs.Tests.{impossible}
 use Rattle.table_rules.specs.declared.Answer.the-variants as T
 use Rattle.table_reading.specs.Table.{readTable}
 use Rattle.table_reading.proofs.Exactly.{read-among}
+use Rattle.table_reading.proofs.Given.{answer-is}
 use Rattle.event_reading.specs.declared.Event.{Event}
 use Rattle.event_reading.specs.declared.Reading.the-variants as R
 use Rattle.event_reading.specs.Record.{readRecord}
@@ -23,7 +25,7 @@ use Rattle.apply_events.specs.Log.{stateAfter}
 use Rattle.rig_codes.specs.Code.{Case, chosen, none, refused, too-long, Fits, codeFor, caseFor, InRun, ofAnswer, begins, caseOf, codeOf}
 use Rattle.rig_codes.specs.Given.{Begun, Given, long, bad-table, bad-record, empty, last, Source, of-table, of-record, of-event}
 use Rattle.rig_codes.proofs.Answers.{ran-said, said-16}
-use Rattle.rig_codes.proofs.Starts.{answer-is, begins-sound}
+use Rattle.rig_codes.proofs.Starts.{begins-sound}
 use Rattle.rig_codes.proofs.Exactly.{ran-last, given-is, given-exactly}
 
 told : (c : Case) → Fits c → caseFor (codeFor c) ≡ c
@@ -43,7 +45,7 @@ module _ (table log : List ℕ) where
       some zero e = absurd (not-both (sym (read-end (restOf log) .1 e) ∙ q))
         where
           not-both : R.End ≡ R.Refused n → ⊥
-          not-both z = let y : _≡_ {A = ℕ} 0 1 = cc in absurd (omega arith)
+          not-both z = impossible cc
       some (suc k) e = omega arith
 
   table-among : (n p : ℕ) → readTable table .answer ≡ T.Refused n p → (1 ≤ n) × (n ≤ 4)
@@ -94,7 +96,7 @@ module _ (table log : List ℕ) where
   -- ---- where a refusal comes from
 
   from : (c : Case) → Given table log c → (n : ℕ) → c ≡ refused n → Source table log n
-  from c (long l) n e = let z : _≡_ {A = ℕ} 0 1 = cc in absurd (omega arith)
+  from c (long l) n e = impossible cc
   from c (bad-table l {n = m} {p} q) n e =
       let z : m ≡ n = cc in
       let a = table-among m p q in
@@ -103,13 +105,13 @@ module _ (table log : List ℕ) where
       let z : m ≡ n = cc in
       let a = stopped-among m q in
       of-record (omega (arith, a .0)) (omega (arith, a .1)) (rw z at q)
-  from c (empty b q) n e = let z : _≡_ {A = ℕ} 0 1 = cc in absurd (omega arith)
+  from c (empty b q) n e = impossible cc
   from c (last w es x q) n e = go (applied (stateAfter (begins table) es) x .answer) refl (last-said (w .begun) es x q) e
     where
       go : (a : Answer) → applied (stateAfter (begins table) es) x .answer ≡ a → InRun (readTable table .table .count) a → ofAnswer a ≡ refused n
           → Source table log n
-      go (A.Run p k) r h z = let y : _≡_ {A = ℕ} 0 1 = cc in absurd (omega arith)
-      go A.Idle r h z = let y : _≡_ {A = ℕ} 0 1 = cc in absurd (omega arith)
+      go (A.Run p k) r h z = impossible cc
+      go A.Idle r h z = impossible cc
       go (A.Refused m) r h z =
           let y : m ≡ n = cc in
           of-event (omega (arith, h .0)) (omega (arith, h .1)) es x q (rw y at r)
@@ -120,16 +122,16 @@ module _ (table log : List ℕ) where
   -- ---- what is chosen
 
   chosen-by : (c : Case) → Given table log c → (p : ℕ) → c ≡ chosen p → p < readTable table .table .count
-  chosen-by c (long l) p e = let z : _≡_ {A = ℕ} 0 1 = cc in absurd (omega arith)
-  chosen-by c (bad-table l q) p e = let z : _≡_ {A = ℕ} 0 1 = cc in absurd (omega arith)
-  chosen-by c (bad-record b q) p e = let z : _≡_ {A = ℕ} 0 1 = cc in absurd (omega arith)
-  chosen-by c (empty b q) p e = let z : _≡_ {A = ℕ} 0 1 = cc in absurd (omega arith)
+  chosen-by c (long l) p e = impossible cc
+  chosen-by c (bad-table l q) p e = impossible cc
+  chosen-by c (bad-record b q) p e = impossible cc
+  chosen-by c (empty b q) p e = impossible cc
   chosen-by c (last w es x q) p e = go (applied (stateAfter (begins table) es) x .answer) (last-said (w .begun) es x q) e
     where
       go : (a : Answer) → InRun (readTable table .table .count) a → ofAnswer a ≡ chosen p → p < readTable table .table .count
       go (A.Run k c) h z = let y : k ≡ p = cc in omega arith
-      go A.Idle h z = let y : _≡_ {A = ℕ} 0 1 = cc in absurd (omega arith)
-      go (A.Refused m) h z = let y : _≡_ {A = ℕ} 0 1 = cc in absurd (omega arith)
+      go A.Idle h z = impossible cc
+      go (A.Refused m) h z = impossible cc
 
   -- a chosen task is one of the table's
   pub chosen-below : (p : ℕ) → caseOf table log ≡ chosen p → p < readTable table .table .count

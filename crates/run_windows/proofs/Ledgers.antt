@@ -5,6 +5,7 @@ use mathlib.Core.Bool.{Bool, true, false}
 use mathlib.Core.List.{List, [], _∷_}
 use native.Mathlib.Omega.{arith}
 use lib.ListN.{drop}
+use Rattle.laws.proofs.Tests.{impossible}
 use Rattle.task_levels.specs.Level.{classOf}
 use Rattle.table_rules.specs.declared.Task.{Task}
 use Rattle.task_records.specs.declared.Record.{Record}
@@ -29,9 +30,9 @@ module _ {task : Task} where
   ledger-rung (then-missed c l) = rw (ledger-rung l)
 
   pub required-of : {os : List Bool} {q : Rung} → Ledger task os q → RequiredMet task os
-  required-of blank [] older e = let z : _≡_ {A = ℕ} 0 1 = cc in absurd (omega arith)
-  required-of blank (o ∷ newer) older e = let z : _≡_ {A = ℕ} 0 1 = cc in absurd (omega arith)
-  required-of (then-met l) [] older e = let z : _≡_ {A = ℕ} 0 1 = cc in absurd (omega arith)
+  required-of blank [] older e = impossible cc
+  required-of blank (o ∷ newer) older e = impossible cc
+  required-of (then-met l) [] older e = impossible cc
   required-of (then-met l) (o ∷ newer) older e = required-of l newer older (cc)
   required-of (then-missed {os = os} c l) [] older e =
       let s : os ≡ older = cc in rw (← s, ← ledger-rung l) c

@@ -66,7 +66,8 @@ module _ (l : List Record) where
           later i h o q (no e) = f .least i (one-more n i h e) o q
 
       go : (v w : Bool) → at n .live ≡ v → ltb (keyOf (at n)) (keyOf (at p)) ≡ w
-          → Found l (suc n) (cond (cond v (cond true w true) false) (record { found = true; key = keyOf (at n); at = n }) (record { found = true; key = keyOf (at p); at = p }))
+          → Found l (suc n) (cond (cond v (cond true w true) false) (record { found = true; key = keyOf (at n); at = n })
+          (record { found = true; key = keyOf (at p); at = p }))
       go true true ev ew = some (new ev (ltb-true _ _ ew))
       go true false ev ew = some (old (λ o. ltb-false _ _ ew))
       go false w ev ew = some (old (λ o. absurd (true-not-false (sym o ∙ ev))))
@@ -80,7 +81,8 @@ module _ (l : List Record) where
           side (no q) = f i (one-more n i h q)
 
       go : (v : Bool) → at n .live ≡ v
-          → Found l (suc n) (cond (cond v (cond false (ltb (keyOf (at n)) k) true) false) (record { found = true; key = keyOf (at n); at = n }) (record { found = false; key = k; at = p }))
+          → Found l (suc n) (cond (cond v (cond false (ltb (keyOf (at n)) k) true) false) (record { found = true; key = keyOf (at n); at = n })
+          (record { found = false; key = k; at = p }))
       go true e = some {p = n} (record { below = omega arith; live = e; least = λ i h o q. absurd (true-not-false (sym o ∙ f i (one-more n i h q))) })
       go false e = nothing (none-yet e)
 

@@ -1,21 +1,17 @@
 -- A test of every position holds exactly if each position's does: by induction on how many were looked at.
 use Prim.Native.Nat.{ℕ, zero, suc, _<_}
 use mathlib.Core.Path.{_≡_, refl, sym, ap, _∙_}
-use mathlib.Core.Bool.{Bool, true, false, cond}
+use mathlib.Core.Bool.{true, false, cond}
 use mathlib.Core.List.{List}
 use native.Mathlib.Decide.{ℕ-discrete}
 use native.Mathlib.Nat.{not-suc-le-zero}
 use native.Mathlib.Omega.{arith}
 use lib.ListN.{getD}
-use Rattle.laws.proofs.Tests.{both-hold}
+use Rattle.laws.proofs.Tests.{cond-same, both-hold}
 use Rattle.task_records.specs.declared.Record.{Record}
 use Rattle.task_steps.specs.Opening.{noRecord}
 use Rattle.task_soundness.specs.Sound.{soundHolds}
 use Rattle.state_rules.specs.Sound.{eachHolds}
-
-never : (b : Bool) → cond b false false ≡ false
-never true = refl
-never false = refl
 
 module _ (l : List Record) (clock : ℕ) where
   pub each-at : (n : ℕ) → eachHolds l clock n ≡ true → (i : ℕ) → i < n → soundHolds (getD l i noRecord) clock ≡ true
@@ -40,5 +36,6 @@ module _ (l : List Record) (clock : ℕ) where
     where
       go : Dec (i ≡ n) → (i < n → soundHolds (getD l i noRecord) clock ≡ false → eachHolds l clock n ≡ false)
           → cond (eachHolds l clock n) (soundHolds (getD l n noRecord) clock) false ≡ false
-      go (yes q) k = let w : soundHolds (getD l n noRecord) clock ≡ false = ap (λ (j : ℕ). soundHolds (getD l j noRecord) clock) (sym q) ∙ e in rw w (never (eachHolds l clock n))
+      go (yes q) k = let w : soundHolds (getD l n noRecord) clock ≡ false =
+          ap (λ (j : ℕ). soundHolds (getD l j noRecord) clock) (sym q) ∙ e in rw w (cond-same (eachHolds l clock n) false)
       go (no q) k = let w : eachHolds l clock n ≡ false = k (omega arith) e in rw w

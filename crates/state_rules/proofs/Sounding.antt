@@ -1,4 +1,4 @@
--- The test of a state tells exactly whether it is sound.
+-- The test of a state tells exactly whether it is sound: clause by clause.
 use mathlib.Core.Path.{_≡_}
 use mathlib.Core.Bool.{true, false, cond}
 use borrow.Author.Tests.{le-leb, leb-true}

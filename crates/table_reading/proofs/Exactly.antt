@@ -21,7 +21,8 @@ use Rattle.table_reading.specs.Table.{Whole, recordAt, recordFaultAt, by
 pub whole-tells : (s : List ℕ) → Tells (bytesHold s) (Whole s)
 whole-tells s =
     tells
-    (λ e. let h = both-hold (eqb (length s % 16) 0) (countHolds (length s / 16)) e in record { sixteens = eqb-true _ _ (h .0); counted = counted-tells (length s / 16) .holds (h .1) })
+    (λ e. let h = both-hold (eqb (length s % 16) 0) (countHolds (length s / 16)) e in
+    record { sixteens = eqb-true _ _ (h .0); counted = counted-tells (length s / 16) .holds (h .1) })
     (λ r. rw (eq-eqb _ _ (r .sixteens)) (tells-true (counted-tells (length s / 16)) (r .counted)))
 
 -- reading table bytes: 1, then 2, 3 and 4 record by record (`record-mark` and `record-task` say which)

@@ -1,19 +1,20 @@
 -- What was read is a good table with zeros past its last task: each of its tasks is a record's, and no record has a fault.
 use Prim.Native.Nat.{ℕ, _/_, _<_}
-use mathlib.Core.Path.{_≡_, _∙_}
+use mathlib.Core.Path.{_≡_, refl, sym, _∙_}
 use mathlib.Core.List.{List}
 use native.Mathlib.Decide.{decLt}
 use native.Mathlib.Omega.{arith}
 use lib.ListN.{length, getD, replicate, getD-replicate, List·getD-eq-default}
 use Rattle.laws.proofs.Stores.{length-filled, filled-below, filled-past}
-use Rattle.table_rules.specs.declared.Answer.the-variants.{Accepted}
+use Rattle.table_rules.specs.declared.Answer.{Answer}
+use Rattle.table_rules.specs.declared.Answer.the-variants.{Accepted, Refused}
 use Rattle.table_rules.specs.declared.Table.{Table}
 use Rattle.table_rules.specs.Rules.{taskFault, noTask}
 use Rattle.table_rules.specs.Judging.{judged}
 use Rattle.table_rules.specs.Tidy.{Tidy}
 use Rattle.table_rules.proofs.Exactly.{judged-accepted}
 use Rattle.table_reading.specs.Row.{Marked}
-use Rattle.table_reading.specs.Table.{Whole, recordAt, taskFrom, tableOf, readAnswer, readTable}
+use Rattle.table_reading.specs.Table.{Whole, recordAt, taskFrom, tableOf, beside, readAnswer, readTable}
 use Rattle.table_reading.proofs.Exactly.{read-accepted, length-at}
 use Rattle.table_reading.proofs.Records.{record-task}
 
@@ -30,6 +31,14 @@ zero-place i = go (decLt i 16)
     go : Dec (i < 16) → getD (replicate 16 noTask) i noTask ≡ noTask
     go (yes q) = getD-replicate 16 i noTask noTask q
     go (no q) = List·getD-eq-default (replicate 16 noTask) noTask {n = i} (omega arith)
+
+pub answer-is : (s : List ℕ) → readTable s .answer ≡ readAnswer s
+unfolding readTable
+answer-is s = go (readAnswer s)
+  where
+    go : (a : Answer) → beside a (given s) .answer ≡ a
+    go Accepted = refl
+    go (Refused n p) = refl
 
 module _ (s : List ℕ) (good : readAnswer s ≡ Accepted) where
   pub whole : Whole s
@@ -48,10 +57,6 @@ module _ (s : List ℕ) (good : readAnswer s ≡ Accepted) where
   unfolding readTable
   given-is = rw good
 
-  -- what was read has no refusal of its own left
-  pub read-good : judged (readTable s .table) ≡ Accepted
-  read-good = rw given-is given-good
-
   -- what was read has zeros past the last task
   pub read-tidy : Tidy (readTable s .table)
   read-tidy =
@@ -61,3 +66,9 @@ module _ (s : List ℕ) (good : readAnswer s ≡ Accepted) where
         zeros = λ i h. filled-past (taskFrom s) (replicate 16 noTask) noTask (count s) i h ∙ zero-place i;
       }
       )
+
+-- what was read has no refusal of its own left
+pub read-good : (s : List ℕ) → readTable s .answer ≡ Accepted → judged (readTable s .table) ≡ Accepted
+read-good s e =
+    let good = sym (answer-is s) ∙ e in
+    rw (given-is s good) (given-good s good)

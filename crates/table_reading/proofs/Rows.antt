@@ -6,6 +6,7 @@ use mathlib.Core.Logic.{_↔_}
 use native.Mathlib.Omega.{arith}
 use borrow.Author.Tests.{eq-eqb, ne-eqb}
 use lib.ListN.{length, getD}
+use Rattle.laws.proofs.Tests.{impossible}
 use Rattle.table_reading.specs.declared.Row.{Row}
 use Rattle.table_reading.specs.declared.Row.the-variants as Row
 use Rattle.table_rules.specs.declared.Task.{Task}
@@ -49,14 +50,14 @@ module _ (s : List ℕ) where
     where
       go : (y : ℕ) → recordFault s ≡ y → rowBy y (taskOf s) ≡ Row.Task t → (recordFault s ≡ 0) × (t ≡ taskOf s)
       go zero q r = (q, cc)
-      go (suc y) q r = let z : _≡_ {A = ℕ} 0 1 = cc in absurd (omega arith)
+      go (suc y) q r = impossible cc
 
   pub refused-row : (x : ℕ) → readRow s ≡ Row.Refused x → (recordFault s ≡ x) × (x ≡ 0 → ⊥)
   unfolding readRow
   refused-row x e = go (recordFault s) refl e
     where
       go : (y : ℕ) → recordFault s ≡ y → rowBy y (taskOf s) ≡ Row.Refused x → (recordFault s ≡ x) × (x ≡ 0 → ⊥)
-      go zero q r = let z : _≡_ {A = ℕ} 0 1 = cc in absurd (omega arith)
+      go zero q r = impossible cc
       go (suc y) q r = let w : suc y ≡ x = cc in (q ∙ w, λ z. omega arith)
 
   -- the number that a record is answered by is its fault
@@ -74,4 +75,4 @@ module _ (s : List ℕ) where
     where
       go : (r : Row) → rowSaid r .values ≡ t ∷ [] → r ≡ Row.Task t
       go (Row.Task u) e = let w : u ≡ t = cc in ap Row.Task w
-      go (Row.Refused n) e = let z : _≡_ {A = ℕ} 0 1 = cc in absurd (omega arith)
+      go (Row.Refused n) e = impossible cc

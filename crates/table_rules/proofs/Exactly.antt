@@ -1,5 +1,5 @@
--- Each refusal of a table is given exactly when the rules say: 1 by the count's test alone, every other number at the first
--- position that has it. One theorem over the test and the faults serves judging and, above, reading.
+-- Each refusal of a table is given exactly when the rules say: 1 by the count's test alone, every other number at the first position that has it. One theorem
+-- over the test and the faults serves judging and, above, reading.
 use Prim.Native.Nat.{ℕ, _<_}
 use mathlib.Core.Path.{_≡_, refl, sym, ap, _∙_}
 use mathlib.Core.Bool.{Bool, true, false}
@@ -9,7 +9,7 @@ use native.Mathlib.Omega.{arith}
 use borrow.Author.Tests.{le-leb, leb-true}
 use lib.Dec.{leb}
 use lib.ListN.{getD}
-use Rattle.laws.proofs.Tests.{Tells, tells, each-holds}
+use Rattle.laws.proofs.Tests.{impossible, Tells, tells, each-holds}
 use Rattle.table_rules.specs.declared.Answer.{Answer}
 use Rattle.table_rules.specs.declared.Answer.the-variants.{Accepted, Refused}
 use Rattle.table_rules.specs.declared.Table.{Table}
@@ -30,7 +30,7 @@ module _ (f : ℕ → ℕ) (n : ℕ) (P : Type 0) where
   pub accepted-by : (b : Bool) → Tells b P → (oneThen b f n ≡ Accepted) ↔ (P × ((i : ℕ) → i < n → f i ≡ 0))
   accepted-by true t = (λ e. (t .holds refl, none-then f n e), λ r. none-if f n (r .1))
   accepted-by false t =
-      (λ e. let z : _≡_ {A = ℕ} 0 1 = cc in absurd (omega arith), λ r. absurd (t .fails refl (r .0)))
+      (λ e. impossible cc, λ r. absurd (t .fails refl (r .0)))
 
   pub one-by : (b : Bool) → Tells b P → ((i : ℕ) → i < n → f i ≡ 1 → ⊥) → (numberOf (oneThen b f n) ≡ 1) ↔ (P → ⊥)
   one-by true t q1 = (λ e. absurd (go (firstFault f n) refl e), λ k. absurd (k (t .holds refl)))

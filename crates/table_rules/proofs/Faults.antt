@@ -4,6 +4,7 @@ use mathlib.Core.Path.{_≡_, refl, sym, ap, _∙_}
 use native.Mathlib.Nat.{not-suc-le-zero}
 use native.Mathlib.Decide.{ℕ-discrete}
 use native.Mathlib.Omega.{arith}
+use Rattle.laws.proofs.Tests.{impossible}
 use Rattle.table_rules.specs.declared.Answer.{Answer}
 use Rattle.table_rules.specs.declared.Answer.the-variants.{Accepted, Refused}
 use Rattle.table_rules.specs.Judging.{orElse, firstFault}
@@ -17,8 +18,8 @@ pub record First (f : ℕ → ℕ) (n x p : ℕ) : Type 0 where
 
 accepted-parts : (a : Answer) (x i : ℕ) → orElse a x i ≡ Accepted → (a ≡ Accepted) × (x ≡ 0)
 accepted-parts Accepted zero i e = (refl, refl)
-accepted-parts Accepted (suc x) i e = let z : _≡_ {A = ℕ} 0 1 = cc in absurd (omega arith)
-accepted-parts (Refused y p) x i e = let z : _≡_ {A = ℕ} 0 1 = cc in absurd (omega arith)
+accepted-parts Accepted (suc x) i e = impossible cc
+accepted-parts (Refused y p) x i e = impossible cc
 
 module _ (f : ℕ → ℕ) where
   pub none-more : (n : ℕ) → firstFault f n ≡ Accepted → f n ≡ 0 → firstFault f (suc n) ≡ Accepted
@@ -69,12 +70,12 @@ module _ (f : ℕ → ℕ) where
 
   pub found-then : (n x p : ℕ) → firstFault f n ≡ Refused x p → First f n x p
   unfolding firstFault
-  found-then zero x p e = let z : _≡_ {A = ℕ} 0 1 = cc in absurd (omega arith)
+  found-then zero x p e = impossible cc
   found-then (suc n) x p e = go (firstFault f n) (f n) refl refl e (found-then n x p)
     where
       go : (a : Answer) (y : ℕ) → firstFault f n ≡ a → f n ≡ y → orElse a y n ≡ Refused x p
           → (firstFault f n ≡ Refused x p → First f n x p) → First f (suc n) x p
-      go Accepted zero q r s k = let z : _≡_ {A = ℕ} 0 1 = cc in absurd (omega arith)
+      go Accepted zero q r s k = impossible cc
       go Accepted (suc y) q r s k =
           let ex : suc y ≡ x = cc in
           let ep : n ≡ p = cc in

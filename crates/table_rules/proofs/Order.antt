@@ -1,4 +1,4 @@
--- Of two tasks at different positions exactly one stands above the other, by D and then position, and above goes on through a third.
+-- Of two tasks at different positions exactly one stands above the other, by D and then position, and above is transitive: by comparing D.
 use Prim.Native.Nat.{ℕ, _<_}
 use mathlib.Core.Path.{_≡_, sym, _∙_}
 use mathlib.Core.Logic.{_⊎_, inl, inr}

@@ -1,5 +1,5 @@
--- A table that is written and read back has its count and its first tasks, and is the same where the rest is zero; bytes that read,
--- written again, are the same bytes: record by record, from the round trips of a number.
+-- A table that is written and read back has its count and its first tasks, and is the same where the rest is zero; bytes that read, written again, are the
+-- same bytes: record by record, from the round trips of a number.
 use Prim.Native.Nat.{ℕ, zero, suc, _+_, _*_, _/_, _≤_, _<_}
 use mathlib.Core.Path.{_≡_, refl, sym, ap, _∙_}
 use mathlib.Core.List.{List, [], _∷_, _++_, append-assoc, append-nil}
@@ -82,7 +82,8 @@ record-in ts (suc n) s i h = go (ℕ-discrete i n) (record-in ts n (recordOf (ge
         → recordAt (recordsOf ts n ++ recordOf (getD ts n noTask) ++ s) i ≡ recordOf (getD ts i noTask)
     go (yes q) k =
         let r = recordOf (getD ts n noTask) in
-        rw (q, append-assoc (recordsOf ts n) r s, drop-at (recordsOf ts n) (r ++ s) (16 * n) (length-records ts n)) (take-at r s 16 (length-record (getD ts n noTask)))
+        rw (q, append-assoc (recordsOf ts n) r s, drop-at (recordsOf ts n) (r ++ s) (16 * n) (length-records ts n))
+        (take-at r s 16 (length-record (getD ts n noTask)))
     go (no q) k = rw (append-assoc (recordsOf ts n) (recordOf (getD ts n noTask)) s) (k (omega arith))
 
 -- an accepted table's records read, and give its first tasks

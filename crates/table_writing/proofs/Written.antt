@@ -8,6 +8,7 @@ use native.Mathlib.Omega.{arith}
 use borrow.Author.Tests.{le-leb, lt-leb, leb-true, leb-false}
 use lib.Dec.{leb}
 use lib.ListN.{length, getD, drop}
+use Rattle.laws.proofs.Tests.{impossible}
 use Rattle.table_rules.specs.declared.Answer.{Answer}
 use Rattle.table_rules.specs.declared.Answer.the-variants.{Accepted, Refused}
 use Rattle.table_rules.specs.declared.Table.{Table}
@@ -24,10 +25,10 @@ own-first t n x p e = rw e
 
 by-room : (b : Bool) → cond b Accepted (Refused 14 0) ≡ Accepted → b ≡ true
 by-room true e = refl
-by-room false e = let z : _≡_ {A = ℕ} 0 1 = cc in absurd (omega arith)
+by-room false e = impossible cc
 
 by-want : (b : Bool) → cond b Accepted (Refused 14 0) ≡ Refused 14 0 → b ≡ false
-by-want true e = let z : _≡_ {A = ℕ} 0 1 = cc in absurd (omega arith)
+by-want true e = impossible cc
 by-want false e = refl
 
 module _ (t : Table) (n : ℕ) where
@@ -51,7 +52,7 @@ module _ (t : Table) (n : ℕ) where
     where
       go : (a : Answer) → judged t ≡ a → ifRoom a (16 * t .count) n ≡ Accepted → (judged t ≡ Accepted) × (16 * t .count ≤ n)
       go Accepted q e = (q, leb-true (16 * t .count) n (by-room (leb (16 * t .count) n) e))
-      go (Refused x p) q e = let z : _≡_ {A = ℕ} 0 1 = cc in absurd (omega arith)
+      go (Refused x p) q e = impossible cc
 
 -- what the lent bytes hold afterwards
 pub write-leaves : (t : Table) (s : List ℕ) → writeAnswer t (length s) ≡ Accepted → wroteTable t s ≡ recordsOf (t .tasks) (t .count) ++ drop (16 * t .count) s

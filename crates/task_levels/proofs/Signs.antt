@@ -1,4 +1,4 @@
--- What the machine asks of the level's few sums, by cases on the sign.
+-- The few sums that the code makes of levels fit in 32 bits and are those of the definitions: by cases on the sign.
 use Prim.Native.Nat.{ℕ, zero, suc, _<_, _^_}
 use mathlib.Core.Path.{_≡_, refl, subst}
 use mathlib.Core.Bool.{Bool, true, false}

@@ -9,7 +9,7 @@ use borrow.Author.Tests.{ltb-false, eqb-false}
 use lib.Count.{ones}
 use lib.Dec.{eqb, ltb, leb}
 use lib.Pow.{pow-pos}
-use Rattle.laws.proofs.Tests.{true-not-false}
+use Rattle.laws.proofs.Tests.{true-not-false, impossible}
 use Rattle.task_levels.specs.Level.{classOf, raised, lowest, levelHolds}
 use Rattle.task_levels.proofs.Needs.{need, class-need, need-lowest, level-holds, level-told, raised-most, raised-class}
 use Rattle.table_rules.specs.declared.Task.{Task}
@@ -30,9 +30,6 @@ use Rattle.task_soundness.specs.Sound.{Sound}
 abbrev pub end : ℕ
 end = 1000000000000
 
-no-job : {P : Type 0} → false ≡ true → P
-no-job e = absurd (true-not-false (sym e))
-
 module _ (task : Task) (ruled : taskFault task ≡ 0) where
   rules : Times task × Misses task
   rules = fault-none task .0 ruled
@@ -51,9 +48,9 @@ module _ (task : Task) (ruled : taskFault task ≡ 0) where
         level = low;
         run = omega arith;
         required = λ z. refl;
-        opens = λ o. no-job o;
+        opens = λ o. impossible cc;
         past = le-refl 0;
-        timely = λ o. no-job o;
+        timely = λ o. impossible cc;
         unreleased = λ z. (refl, refl);
         spaced = omega arith;
         balance = refl;
@@ -91,7 +88,9 @@ module _ (r : Record) (clock : ℕ) (s : Sound r clock) where
     rules-of = rules (r .task) (s .ruled)
 
     told : (need (r .level) ≤ hOf (r .task .m) (r .task .k)) × (classOf (r .level) ≤ topOf (r .task .m) (r .task .k))
-    told = level-told (r .level) (hOf (r .task .m) (r .task .k)) (topOf (r .task .m) (r .task .k)) (h-some (r .task .m) (r .task .k) (rules-of .1 .fewer)) (s .level)
+    told =
+        level-told (r .level) (hOf (r .task .m) (r .task .k)) (topOf (r .task .m) (r .task .k))
+        (h-some (r .task .m) (r .task .k) (rules-of .1 .fewer)) (s .level)
 
     broken-fits : (x : ℕ) → brokenBy r x ≤ r .met + r .missed + 1
     broken-fits x = go (eqb (r .broken) 0) (ltb (r .task .m) (ones x))
@@ -115,12 +114,15 @@ module _ (r : Record) (clock : ℕ) (s : Sound r clock) where
         let h = h-some (r .task .m) (r .task .k) (rules-of .1 .fewer) in
         record {
           ruled = s .ruled;
-          level = level-holds (raised (r .level) (topOf (r .task .m) (r .task .k))) (hOf (r .task .m) (r .task .k)) (topOf (r .task .m) (r .task .k)) h (raised-most (r .level) (topOf (r .task .m) (r .task .k)) (hOf (r .task .m) (r .task .k)) h (told .0)) (raised-class (r .level) (topOf (r .task .m) (r .task .k)));
+          level =
+              level-holds (raised (r .level) (topOf (r .task .m) (r .task .k))) (hOf (r .task .m) (r .task .k)) (topOf (r .task .m) (r .task .k)) h
+              (raised-most (r .level) (topOf (r .task .m) (r .task .k)) (hOf (r .task .m) (r .task .k)) h (told .0))
+              (raised-class (r .level) (topOf (r .task .m) (r .task .k)));
           run = omega arith;
           required = λ z. refl;
-          opens = λ q. no-job q;
+          opens = λ q. impossible cc;
           past = s .past;
-          timely = λ q. no-job q;
+          timely = λ q. impossible cc;
           unreleased = unreleased-open;
           spaced = s .spaced;
           balance = omega (arith, balance-open, e);
@@ -132,7 +134,8 @@ module _ (r : Record) (clock : ℕ) (s : Sound r clock) where
     run-after true e = omega arith
     run-after false e = omega (arith, stays-below r e)
 
-    level-after : (b : Bool) → levelHolds (cond b (lowest (hOf (r .task .m) (r .task .k))) (r .level)) (hOf (r .task .m) (r .task .k)) (topOf (r .task .m) (r .task .k)) ≡ true
+    level-after : (b : Bool) → levelHolds (cond b (lowest (hOf (r .task .m) (r .task .k))) (r .level)) (hOf (r .task .m) (r .task .k))
+        (topOf (r .task .m) (r .task .k)) ≡ true
     level-after true = low (r .task) (s .ruled)
     level-after false = s .level
 
@@ -158,9 +161,9 @@ module _ (r : Record) (clock : ℕ) (s : Sound r clock) where
           level = level-after (setBack r);
           run = run-after (setBack r) refl;
           required = required-after (setBack r) refl;
-          opens = λ q. no-job q;
+          opens = λ q. impossible cc;
           past = s .past;
-          timely = λ q. no-job q;
+          timely = λ q. impossible cc;
           unreleased = unreleased-open;
           spaced = s .spaced;
           balance = omega (arith, balance-open, e);
@@ -178,7 +181,7 @@ unfolding expired closed
 expired-sound r clock t s h l = go (r .live) (ltb (r .last + r .task .d) t) refl refl
   where
     go : (a b : Bool) → r .live ≡ a → ltb (r .last + r .task .d) t ≡ b → Sound (cond (cond a b false) (closed r false) r) t
-    go true true o q = later-sound (closed r false) clock (missed-sound r clock s o l) t h (λ z. no-job z)
+    go true true o q = later-sound (closed r false) clock (missed-sound r clock s o l) t h (λ z. impossible cc)
     go true false o q = later-sound r clock s t h (λ z. ltb-false (r .last + r .task .d) t q)
     go false b o q = later-sound r clock s t h (λ z. absurd (true-not-false (sym z ∙ o)))
 
@@ -204,5 +207,6 @@ opened-sound r t s l o k =
     }
   where
     spaced-by : Dec (r .released ≡ 0) → r .released + 1 ≤ t + 1
-    spaced-by (no n) = omega (arith, k n, s .spaced, rules (r .task) (s .ruled) .0 .some, rules (r .task) (s .ruled) .0 .within, rules (r .task) (s .ruled) .0 .spaced)
+    spaced-by (no n) =
+        omega (arith, k n, s .spaced, rules (r .task) (s .ruled) .0 .some, rules (r .task) (s .ruled) .0 .within, rules (r .task) (s .ruled) .0 .spaced)
     spaced-by (yes z) = omega arith

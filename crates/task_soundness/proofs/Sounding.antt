@@ -1,7 +1,7 @@
 -- The tests of a record tell exactly whether it is sound, clause by clause.
 use Prim.Native.Nat.{ℕ, _+_, _-_, _^_, min}
-use mathlib.Core.Path.{_≡_, refl, sym}
-use mathlib.Core.Bool.{Bool, true, false, not}
+use mathlib.Core.Path.{_≡_, ap}
+use mathlib.Core.Bool.{Bool, true, not}
 use mathlib.Core.List.{[], _∷_}
 use borrow.Author.Tests.{leb-true, ltb-true, eqb-true, le-leb, lt-ltb, eq-eqb, not-true}
 use lib.Dec.{eqb, leb, ltb}
@@ -13,10 +13,6 @@ use Rattle.task_thresholds.specs.Thresholds.{wOf, hOf, topOf}
 use Rattle.task_records.specs.declared.Record.{Record}
 use Rattle.task_soundness.specs.Sound.{Sound, runHolds, rangesHold, openHolds, releasesHold, soundHolds}
 use Rattle.task_soundness.specs.Counts.{openOf, totalsHold, countsHold}
-
-not-live : (b : Bool) → b ≡ false → not b ≡ true
-not-live true e = sym e
-not-live false e = refl
 
 module _ (r : Record) (clock : ℕ) where
   abbrev level : Bool
@@ -67,7 +63,7 @@ module _ (r : Record) (clock : ℕ) where
   passes s =
       let q = whenever-if (eqb (classOf (r .level)) 0) (eqb (r .run) 0) (λ z. eq-eqb _ _ (s .required (eqb-true _ _ z))) in
       let o = whenever-if (r .live) timely (λ z. rw (eq-eqb _ _ (s .opens z), le-leb _ _ (s .timely z))) in
-      let u = whenever-if (eqb (r .released) 0) unused (λ z. let v = s .unreleased (eqb-true _ _ z) in rw (not-live (r .live) (v .0), eq-eqb _ _ (v .1))) in
+      let u = whenever-if (eqb (r .released) 0) unused (λ z. let v = s .unreleased (eqb-true _ _ z) in rw (ap not (v .0), eq-eqb _ _ (v .1))) in
       rw (
         eq-eqb _ _ (s .ruled),
         s .level,

@@ -1,5 +1,5 @@
--- The digits of a number, one by one: a number of one digit is its glyph, and any other the digits of a tenth of it and then its last.
--- By induction on tenths they are digits, spell the number, begin with no 0 before another, and are no more than they have to be.
+-- The digits of a number, one by one: a number of one digit is its glyph, and any other the digits of a tenth of it and then its last. By induction on tenths
+-- they are digits, spell the number, begin with no 0 before another, and are no more than they have to be.
 use Prim.Native.Nat.{ℕ, zero, suc, _+_, _-_, _*_, _/_, _%_, _^_, _≤_, _<_}
 use mathlib.Core.Path.{_≡_, refl}
 use mathlib.Core.Bool.{Bool, true, false, cond}

@@ -1,5 +1,5 @@
--- Texts put one behind another are one text; a text that fits stands at the front, with the bytes past it as they were, and of one that does not
--- as much stands there as fits, with the place one past the end. By induction on the text.
+-- Texts put one behind another are one text; a text that fits stands at the front, with the bytes past it as they were, and of one that does not as much
+-- stands there as fits, with the place one past the end. By induction on the text.
 use Prim.Native.Nat.{ℕ, suc, _+_, _-_, _≤_, _<_}
 use native.Mathlib.Numerals.{add-one}
 use native.Mathlib.Omega.{arith}
@@ -30,7 +30,8 @@ unfolding puts
 first-byte s b = refl
 
 -- one byte more of a text
-pub next-byte : (s : Sheet) {t u : Sheet} (text : List ℕ) (i : ℕ) → i < length text → t ≡ puts s (take i text) → u ≡ put t (getD text i 0) → u ≡ puts s (take (suc i) text)
+pub next-byte : (s : Sheet) {t u : Sheet} (text : List ℕ) (i : ℕ) → i < length text → t ≡ puts s (take i text) → u ≡ put t (getD text i 0)
+    → u ≡ puts s (take (suc i) text)
 next-byte s {t} {u} text i h p q =
     and-byte s (take i text) (getD text i 0) p q ∙ ap (puts s) (sym (take-suc text i 0 h))
 

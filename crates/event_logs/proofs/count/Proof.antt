@@ -1,4 +1,4 @@
--- `events::count` meets its contract: what is not in the rest are the readable records, of 20 bytes each.
+-- `count` meets its contract: what is not in the rest are the readable records, of 20 bytes each.
 use native.Mathlib.Omega.{arith}
 use borrow.Author.Needs.{needs}
 use lib.ListN.{length-drop}

@@ -1,4 +1,4 @@
--- `events::event_at` meets its contract: a place within the log is the front of a part, and past the last byte nothing is left.
+-- `event_at` meets its contract: a place within the log is the front of a part, and past the last byte nothing is left.
 use Prim.Native.Nat.{_*_}
 use mathlib.Core.Path.{ap, _∙_}
 use native.Mathlib.Omega.{arith}

@@ -1,4 +1,4 @@
--- `events::rest` meets its contract. What stands before the place has been read; a record that reads moves the place, any other answer is the end.
+-- `rest` meets its contract: what stands before the place has been read, a record that reads moves the place on, and any other answer is the end.
 use Prim.Native.Nat.{_+_, _-_}
 use mathlib.Core.Path.{sym, ap, _∙_}
 use mathlib.Core.Logic.{⊎-elim}
@@ -54,7 +54,8 @@ returns c =
     (λ x q. ⊎-elim (λ t. omega (arith, rw (e ∙ q) at t)) (λ t. omega (arith, rw (e ∙ q) at t)) (c .before .match .keys2))
 
 -- after a record that reads
-again : (c : tie.After-enum-told Inv-loop μ-loop) → Place (c .before .before .before .before .before .before .args .log .now) (c .before .before .before .before .loop .at + 20)
+again : (c : tie.After-enum-told Inv-loop μ-loop) → Place (c .before .before .before .before .before .before .args .log .now)
+    (c .before .before .before .before .loop .at + 20)
 again c =
     let s = c .before .before .before .before .before .before .args .log .now in
     let l = c .before .before .before .before .loop in

@@ -1,4 +1,4 @@
--- `events::fields` meets its contract: a field of 8 bytes is read from a part of just those.
+-- `fields` meets its contract: a field of 8 bytes is read from a part of just those.
 use mathlib.Core.Path.{_≡_, ap, _∙_}
 use native.Mathlib.Nat.{le-refl}
 use borrow.Author.Needs.{needs}

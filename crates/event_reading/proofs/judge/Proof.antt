@@ -1,4 +1,4 @@
--- `events::judge` meets its contract: each way out is a row of `Judged`.
+-- `judge` meets its contract: each way out is a row of `Judged`.
 use native.Mathlib.Omega.{arith}
 use Rattle.event_reading.specs.Event.{unknown, stray, sound}
 use Rattle.event_reading.proofs.Rules.{judged-only, no-job}

@@ -1,4 +1,4 @@
--- `events::read` meets its contract: each way out is a rule of `Reads`.
+-- `read` meets its contract: each way out is a rule of `Reads`.
 use native.Mathlib.Omega.{arith}
 use borrow.Author.Needs.{needs}
 use Rattle.event_reading.specs.Record.{Marked, ended, short, unmarked}
@@ -38,13 +38,15 @@ returns-5 : tie.Need-returns-5
 returns-5 c =
     let f = c .before .before .fields in
     let j = c .before .judge in
-    refused-is _ (f .result) (j .result) (c .before .before .before .before .before .before .before .if2 .left) (marked (c .before)) (f .ensures) (j .ensures) (c .if5 .taken)
+    refused-is _ (f .result) (j .result) (c .before .before .before .before .before .before .before .if2 .left) (marked (c .before)) (f .ensures)
+    (j .ensures) (c .if5 .taken)
 
 returns-6 : tie.Need-returns-6
 returns-6 c =
     let f = c .before .before .fields in
     let j = c .before .judge in
-    event-is _ (f .result) (j .result) (c .before .before .before .before .before .before .before .if2 .left) (marked (c .before)) (f .ensures) (j .ensures) (c .if5 .left)
+    event-is _ (f .result) (j .result) (c .before .before .before .before .before .before .before .if2 .left) (marked (c .before)) (f .ensures)
+    (j .ensures) (c .if5 .left)
 
 pub read-spec : {M : Type 1} → statement M
 read-spec =

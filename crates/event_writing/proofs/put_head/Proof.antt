@@ -1,4 +1,4 @@
--- `events::put_head` meets its contract: its four stores are those of `head-is`.
+-- `put_head` meets its contract: its four stores are those of `head-is`.
 use native.Mathlib.Omega.{arith}
 use borrow.Author.Needs.{needs}
 use lib.ListN.{length-set}

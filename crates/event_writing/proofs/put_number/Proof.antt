@@ -1,4 +1,4 @@
--- `events::put_number` meets its contract: the part that is lent has room for the 8 bytes.
+-- `put_number` meets its contract: the part that is lent has room for the 8 bytes.
 use borrow.Author.Needs.{needs}
 use Rattle.event_writing.proofs.WriteOne.{number-at}
 use Rattle.event_writing.proofs.put_number.Statement.{statement}

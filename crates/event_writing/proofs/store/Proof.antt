@@ -1,4 +1,4 @@
--- `events::store` meets its contract: the three parts make up the record.
+-- `store` meets its contract: the three parts make up the record.
 use borrow.Author.Needs.{needs}
 use Rattle.event_writing.proofs.WriteOne.{record-is}
 use Rattle.event_writing.proofs.store.Statement.{statement}
@@ -19,7 +19,8 @@ same-length c = search needs
 returns : tie.Need-returns
 returns c =
     let a = c .before .before .before .before .before .before .before .before .before .before .before .before .before .args in
-    record-is (a .event) (a .out .now) _ _ _ (c .before .before .before .before .before .before .before .before .before .before .put-head .ensures) (c .before .before .before .before .before .before .put-number .ensures) (c .before .before .put-number2 .ensures)
+    record-is (a .event) (a .out .now) _ _ _ (c .before .before .before .before .before .before .before .before .before .before .put-head .ensures)
+    (c .before .before .before .before .before .before .put-number .ensures) (c .before .before .put-number2 .ensures)
 
 pub store-spec : {M : Type 1} → statement M
 store-spec =

@@ -1,4 +1,4 @@
--- `events::write` meets its contract: each way out is a rule of `Writes`.
+-- `write` meets its contract: each way out is a rule of `Writes`.
 use mathlib.Core.Path.{sym, _∙_}
 use borrow.Author.Needs.{needs}
 use Rattle.event_reading.specs.Event.{Judged}
@@ -33,7 +33,9 @@ returns-3 : tie.Need-returns-3
 returns-3 c =
     let a = c .before .before .before .before .before .before .before .before .args in
     let j = c .before .before .before .before .before .before .judge .ensures in
-    let w = writes-only (stored (judge-0 (a .event) .0 (sym j ∙ c .before .before .before .before .before .if1 .left)) (c .before .before .before .before .if2 .left)) in
+    let w =
+    writes-only (stored (judge-0 (a .event) .0 (sym j ∙ c .before .before .before .before .before .if1 .left))
+    (c .before .before .before .before .if2 .left)) in
     (w .0, c .before .before .store .ensures ∙ w .1)
 
 pub write-spec : {M : Type 1} → statement M

@@ -1,4 +1,4 @@
--- The program: what is listed is within what was read, and what is printed within the text that was lent.
+-- `main` meets its contract: what is listed is within what was read, and what is printed within the text that was lent.
 use Prim.Native.Nat.{_≤_}
 use mathlib.Core.Path.{sym, _∙_}
 use native.Mathlib.Omega.{arith}

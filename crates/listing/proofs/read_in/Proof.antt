@@ -1,4 +1,4 @@
--- `listing::read_in` meets its contract: what was read so far is within the bytes that it was read into, and each turn reads a byte at least.
+-- `read_in` meets its contract: what was read so far is within the bytes that it was read into, and each turn reads a byte at least.
 use Prim.Native.Nat.{_-_, _≤_}
 use mathlib.Core.Path.{_≡_, refl}
 use native.Mathlib.Omega.{arith}

@@ -58,7 +58,8 @@ returns c =
     let e2 = f2 .field2 .ensures in
     let e3 = f3 .field3 .ensures in
     and-then (sheet (a .out .now) (a .at)) _ _ (f1 .field .ensures)
-    (and-then _ _ _ (rw (f2 .before .w .ensures) at e2) (and-then _ _ _ (rw (f3 .before .h .ensures) at e3) (and-then _ _ _ (t .bound-text .ensures) (w .words .ensures))))
+    (and-then _ _ _ (rw (f2 .before .w .ensures) at e2)
+    (and-then _ _ _ (rw (f3 .before .h .ensures) at e3) (and-then _ _ _ (t .bound-text .ensures) (w .words .ensures))))
 
 pub task-spec : {M : Type 1} → statement M
 task-spec =

@@ -33,7 +33,8 @@ returns c =
     let n = g .before .before .before .before in
     let f = n .before .before .before .before in
     let a = f .before .before .before .before .args in
-    and-then (sheet (a .out .now) (a .at)) _ _ (f .field .ensures) (and-then _ _ _ (n .counts-text .ensures) (and-then _ _ _ (g .window-text .ensures) (w .words .ensures)))
+    and-then (sheet (a .out .now) (a .at)) _ _ (f .field .ensures)
+    (and-then _ _ _ (n .counts-text .ensures) (and-then _ _ _ (g .window-text .ensures) (w .words .ensures)))
 
 pub last-spec : {M : Type 1} → statement M
 last-spec =

@@ -67,7 +67,13 @@ event-requires c κs = tt
 
 -- after a record that reads
 again : (c : tie.After-slice-known2 Inv-loop μ-loop)
-    → Listing (c .before .before .before .before .before .before .before .before .before .before .before .before .before .before .args .out .now) (c .before .before .before .before .before .before .before .before .before .before .before .before .before .before .args .at) (c .before .before .before .before .before .before .before .before .before .before .before .before .before .before .args .first) (c .before .before .before .before .before .before .before .before .before .before .before .before .before .before .args .log .now) (c .before .before .event .last .0) (c .before .before .event .result) (c .before .before .before .before .before .apply .result .state) (c .before .before .before .before .before .before .before .before .before .before .before .loop .i + 1) (c .before .before .before .before .before .before .before .before .before .before .before .loop .from + 20)
+    → Listing (c .before .before .before .before .before .before .before .before .before .before .before .before .before .before .args .out .now)
+    (c .before .before .before .before .before .before .before .before .before .before .before .before .before .before .args .at)
+    (c .before .before .before .before .before .before .before .before .before .before .before .before .before .before .args .first)
+    (c .before .before .before .before .before .before .before .before .before .before .before .before .before .before .args .log .now)
+    (c .before .before .event .last .0) (c .before .before .event .result) (c .before .before .before .before .before .apply .result .state)
+    (c .before .before .before .before .before .before .before .before .before .before .before .loop .i + 1)
+    (c .before .before .before .before .before .before .before .before .before .before .before .loop .from + 20)
 again c =
     let t = c .before .before in
     let p = t .before .before .before in
@@ -79,7 +85,8 @@ again c =
     let e = ap readRecord (sym (tail-is s (l .loop .from))) ∙ sym (r .read .ensures) ∙ g .1 in
     let d = t .event .ensures in
     rw (p .apply .ensures)
-    (listing-more (a .out .now) (a .at) (a .first) s (l .loop .out) (l .loop .place) (l .loop .state) (l .loop .i) (l .loop .from) (l .loop .inv) (g .0 .0) (t .event .last .0) (t .event .result) e (t .event .kept .0) (rw (p .apply .ensures) at d))
+    (listing-more (a .out .now) (a .at) (a .first) s (l .loop .out) (l .loop .place) (l .loop .state) (l .loop .i) (l .loop .from) (l .loop .inv) (g .0 .0)
+    (t .event .last .0) (t .event .result) e (t .event .kept .0) (rw (p .apply .ensures) at d))
 
 add-from : tie.Need-add-from Inv-loop μ-loop
 add-from c = omega (arith, again c .going .within)

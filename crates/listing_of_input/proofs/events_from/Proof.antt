@@ -1,4 +1,4 @@
--- `listings::events_from` meets its contract: `tableThere` goes by the same tests.
+-- `events_from` meets its contract: `tableThere` makes the same tests.
 use borrow.Author.Needs.{needs}
 use borrow.Author.Tests.{le-leb, lt-leb}
 use native.Mathlib.Omega.{arith}

@@ -1,4 +1,4 @@
--- `listings::list` meets its contract: there is room for every listing in the local bytes, so what is copied is the whole text.
+-- `list` meets its contract: there is room for every listing in the local bytes, so what is copied is the whole text.
 use Prim.Native.Nat.{ℕ, _≤_, _<_}
 use mathlib.Core.Path.{_≡_, ap, sym, _∙_}
 use mathlib.Core.List.{List, _++_}

@@ -1,4 +1,4 @@
--- `listings::written` meets its contract: the tests of the listing, and the parts of the input that hold the table and the events.
+-- `written` meets its contract: the tests of the listing, and the parts of the input that hold the table and the events.
 use mathlib.Core.Path.{_≡_, sym, _∙_}
 use borrow.Author.Needs.{needs}
 use borrow.Author.Tests.{lt-ltb, le-ltb}

@@ -1,7 +1,7 @@
 -- `of_table` meets its contract: the table's refusal, or the listing of the table that was read.
 use borrow.Author.Needs.{needs}
 use Rattle.listing_text.specs.Listing.{listed}
-use Rattle.listing_text.proofs.Input.{read-good}
+use Rattle.table_reading.proofs.Given.{read-good}
 use Rattle.listing_of_table.proofs.of_table.Statement.{statement}
 use Rattle.listing_of_table.proofs.of_table.Tie as tie
 

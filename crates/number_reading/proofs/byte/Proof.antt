@@ -1,4 +1,4 @@
--- `words::byte` meets its contract: an element of a byte slice is a byte, and past the end the list's default stands.
+-- `byte` meets its contract: an element of a byte slice is a byte, and past the end the list's default stands.
 use mathlib.Core.Path.{sym}
 use native.Mathlib.Omega.{arith}
 use borrow.Author.Needs.{needs}

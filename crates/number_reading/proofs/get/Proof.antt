@@ -1,4 +1,4 @@
--- `words::get` meets its contract. What was read is the number from place i on; a turn goes one place back.
+-- `get` meets its contract: what was read is the number from place i on, and a turn goes one place back.
 use Prim.Native.Nat.{_-_, _≤_, _<_, _^_}
 use mathlib.Core.Path.{_≡_}
 use native.Mathlib.Nat.{sub-self, sub-zero}
@@ -28,7 +28,8 @@ room : (c : tie.In-loop Inv-loop μ-loop) → c .before .loop .x < 2 ^ 56
 room c =
     let l = c .before .loop in
     let a = c .before .before .before in
-    rw (l .inv .1) (number-room (a .args .n) (l .i) (a .args .s .now) (λ k. c .before .before .shared-slice-known .given k .fits) (a .pre) (c .loop-test .taken))
+    rw (l .inv .1) (number-room (a .args .n) (l .i) (a .args .s .now) (λ k. c .before .before .shared-slice-known .given k .fits)
+    (a .pre) (c .loop-test .taken))
 
 mul-x : tie.Need-mul-x Inv-loop μ-loop
 mul-x c = omega (arith, room c)

@@ -1,4 +1,4 @@
--- `words::fill` meets its contract. After i turns the first i bytes are written and x is divided by 256 as often; a turn stores one more.
+-- `fill` meets its contract: after i turns the first i bytes are written and x is divided by 256 as often.
 use Prim.Native.Nat.{_-_, _/_, _≤_, _<_, _^_}
 use mathlib.Core.Path.{_≡_, refl}
 use mathlib.Core.List.{_++_}

@@ -1,4 +1,4 @@
--- `words::put` meets its contract: `wrote` goes by the same test.
+-- `put` meets its contract: `wrote` makes the same test.
 use mathlib.Core.Path.{refl, sym, _∙_}
 use borrow.Author.Needs.{needs}
 use borrow.Author.Tests.{lt-leb, le-leb}

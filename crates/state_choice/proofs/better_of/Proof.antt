@@ -1,4 +1,4 @@
--- `better_of` meets its contract: `better` goes by the same test.
+-- `better_of` meets its contract: `better` makes the same test.
 use Prim.Native.Nat.{ℕ}
 use mathlib.Core.Path.{sym, ap, _∙_}
 use borrow.Author.Needs.{needs}

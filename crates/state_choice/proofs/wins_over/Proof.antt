@@ -1,4 +1,4 @@
--- `wins_over` meets its contract: `wins` goes by the same tests.
+-- `wins_over` meets its contract: `wins` makes the same tests.
 use borrow.Author.Needs.{needs}
 use Rattle.state_choice.proofs.wins_over.Statement.{statement}
 use Rattle.state_choice.proofs.wins_over.Tie as tie

@@ -1,4 +1,4 @@
--- `writing::put_row` meets its contract: after i turns the first i bytes of the row are pasted at the place.
+-- `put_row` meets its contract: after i turns the first i bytes of the row are pasted at the place.
 use Prim.Native.Nat.{_-_, _≤_}
 use mathlib.Core.Path.{_≡_, refl}
 use native.Mathlib.Numerals.{add-one}

@@ -1,4 +1,4 @@
--- `writing::record_of` meets its contract: on a row that is written out, each store and each number computes.
+-- `record_of` meets its contract: on a row that is written out, each store and each number computes.
 use Rattle.number_writing.specs.Bytes.{bytes, wrote}
 use borrow.Author.Needs.{needs}
 use Rattle.table_writing.proofs.record_of.Statement.{statement}

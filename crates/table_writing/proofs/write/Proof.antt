@@ -1,4 +1,4 @@
--- `writing::write` meets its contract: the value's own answer first, then the room; only an accepted write touches the bytes.
+-- `write` meets its contract: the value's own answer first, then the room; only an accepted write touches the bytes.
 use mathlib.Core.Path.{_≡_, refl, sym, _∙_}
 use native.Mathlib.Omega.{arith}
 use borrow.Author.Needs.{needs}

@@ -1,4 +1,4 @@
--- `writing::write_records` meets its contract: after i turns the first i records stand in front of the old bytes past them.
+-- `write_records` meets its contract: after i turns the first i records stand in front of the old bytes past them.
 use Prim.Native.Nat.{_-_, _*_, _≤_, _<_}
 use mathlib.Core.Path.{_≡_, refl, _∙_}
 use mathlib.Core.List.{_++_}
@@ -39,7 +39,9 @@ put-row-requires c κs =
     let d = c .before .before .before in
     omega (arith, d .before .loop .inv .1 .0, d .loop-test .taken, d .before .before .before .pre)
 
-more : (c : tie.After-slice-known2 Inv-loop μ-loop) → c .before .before .before .before .before .before .before .loop .i < c .before .before .before .before .before .before .before .before .before .args .t1 .count
+more : (c : tie.After-slice-known2 Inv-loop μ-loop)
+    → c .before .before .before .before .before .before .before .loop .i <
+    c .before .before .before .before .before .before .before .before .before .args .t1 .count
 more c = c .before .before .before .before .before .before .loop-test .taken
 
 add-i : tie.Need-add-i Inv-loop μ-loop

@@ -1,4 +1,4 @@
--- `levels::class` meets its contract, by the level's sign.
+-- `class` meets its contract, by the level's sign.
 use mir.Syntax.{w32}
 use mir.ValLaws.{toZ-ofZ}
 use Rattle.task_levels.proofs.Signs.{class-below, class-above, not-negative, size-fits}

@@ -1,4 +1,4 @@
--- `levels::low` meets its contract: 1 less a byte fits.
+-- `low` meets its contract: 1 less a byte fits in 32 bits.
 use native.Mathlib.Omega.{arith}
 use borrow.Author.Needs.{needs}
 use mir.Syntax.{w32}

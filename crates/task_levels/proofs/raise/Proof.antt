@@ -1,4 +1,4 @@
--- `levels::raise` meets its contract: below a byte's top there is room for one more.
+-- `raise` meets its contract: below a byte's top there is room for one more.
 use native.Mathlib.Omega.{arith}
 use borrow.Author.Needs.{needs}
 use mir.Syntax.{w32}

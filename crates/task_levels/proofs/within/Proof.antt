@@ -1,4 +1,4 @@
--- `levels::within` meets its contract: `levelHolds` goes by the same two tests.
+-- `within` meets its contract: `levelHolds` makes the same two tests.
 use mathlib.Core.Path.{_∙_}
 use native.Mathlib.Omega.{arith}
 use borrow.Author.Needs.{needs}

@@ -26,7 +26,13 @@ one-if-requires c κs = search needs
 add-result : tie.Need-add-result
 add-result c =
     let p = c .before in
-    rw (p .power .ensures, c .one-if .ensures) (omega (arith, one-most (p .before .before .args .miss), kept-room (p .before .before .args .marks) (p .before .kept .result) (p .before .kept .ensures .1)))
+    rw (p .power .ensures, c .one-if .ensures)
+    (omega (
+      arith,
+      one-most (p .before .before .args .miss),
+      kept-room (p .before .before .args .marks) (p .before .kept .result)
+          (p .before .kept .ensures .1),
+    ))
 
 returns : tie.Need-returns
 returns c = rw (c .before .power .ensures, c .before .before .kept .ensures .0, c .one-if .ensures)

@@ -1,4 +1,4 @@
--- `ranges_hold` meets its contract: `rangesHold` goes by the same tests.
+-- `ranges_hold` meets its contract: `rangesHold` makes the same tests.
 use mathlib.Core.Path.{_≡_, sym, ap, _∙_}
 use mir.Syntax.{w32}
 use mir.Val.{SFits}
@@ -10,7 +10,9 @@ use Rattle.task_soundness.specs.Sound.{runHolds}
 use Rattle.task_soundness.proofs.ranges_hold.Statement.{statement}
 use Rattle.task_soundness.proofs.ranges_hold.Tie as tie
 
-level-is : (c : tie.After-within) → c .within .result ≡ levelHolds (c .before .before .before .before .args .of .level) (hOf (c .before .before .before .before .args .of .task .m) (c .before .before .before .before .args .of .task .k)) (topOf (c .before .before .before .before .args .of .task .m) (c .before .before .before .before .args .of .task .k))
+level-is : (c : tie.After-within) → c .within .result ≡ levelHolds (c .before .before .before .before .args .of .level)
+    (hOf (c .before .before .before .before .args .of .task .m) (c .before .before .before .before .args .of .task .k))
+    (topOf (c .before .before .before .before .args .of .task .m) (c .before .before .before .before .args .of .task .k))
 level-is c =
     let d = c .before .before in
     let r = d .before .before .args .of in

@@ -1,4 +1,4 @@
--- `releases_hold` meets its contract: `releasesHold` goes by the same tests.
+-- `releases_hold` meets its contract: `releasesHold` makes the same tests.
 use Prim.Native.Nat.{_+_}
 use mathlib.Core.Path.{sym, _∙_}
 use native.Mathlib.Omega.{arith}
@@ -20,7 +20,12 @@ returns-3 : tie.Need-returns-3
 returns-3 c =
     let b = c .before .before in
     let r = b .before .before .before .before .args .of in
-    rw (le-leb _ _ (b .before .before .if1 .left), eq-eqb _ _ (b .if2 .taken), c .before .if3 .left, le-leb (r .released) (r .last + 1) (omega (arith, b .if2 .taken)))
+    rw (
+      le-leb _ _ (b .before .before .if1 .left),
+      eq-eqb _ _ (b .if2 .taken),
+      c .before .if3 .left,
+      le-leb (r .released) (r .last + 1) (omega (arith, b .if2 .taken)),
+    )
     (sym (same-test _ ∙ same-test _))
 
 sub-result : tie.Need-sub-result

@@ -1,4 +1,4 @@
--- `run_holds` meets its contract: `runHolds` goes by the same tests.
+-- `run_holds` meets its contract: `runHolds` makes the same tests.
 use mathlib.Core.Path.{sym}
 use borrow.Author.Tests.{le-leb, lt-leb, eq-eqb, ne-eqb}
 use borrow.Author.Needs.{needs}

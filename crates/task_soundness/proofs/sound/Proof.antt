@@ -1,4 +1,4 @@
--- `sound` meets its contract: `soundHolds` goes by the same tests.
+-- `sound` meets its contract: `soundHolds` makes the same tests.
 use mathlib.Core.Path.{sym, _∙_}
 use borrow.Author.Tests.{eq-eqb, ne-eqb}
 use borrow.Author.Needs.{needs}

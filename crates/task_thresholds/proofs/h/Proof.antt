@@ -1,4 +1,4 @@
--- `thresholds::h` meets its contract: `hOf` goes by the same cases, and m - 1 over m is 0.
+-- `h` meets its contract: `hOf` has the same cases, and m - 1 over m is 0.
 use Prim.Native.Nat.{_+_, _-_, _<_}
 use mathlib.Core.Path.{sym}
 use native.Mathlib.Nat.{div-eq-of-lt}

@@ -1,4 +1,4 @@
--- `thresholds::top` meets its contract: `topOf` goes by the same cases.
+-- `top` meets its contract: `topOf` has the same cases.
 use native.Mathlib.Nat.{sub-eq-zero-of-le}
 use borrow.Author.Needs.{needs}
 use borrow.Author.Tests.{eq-eqb, ne-eqb}

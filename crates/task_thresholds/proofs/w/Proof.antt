@@ -1,4 +1,4 @@
--- `thresholds::w` meets its contract: `wOf` goes by the same cases, and a quotient by 0 is 0.
+-- `w` meets its contract: `wOf` has the same cases, and a quotient by 0 is 0.
 use native.Mathlib.Nat.{sub-eq-zero-of-le, div-zero}
 use native.Mathlib.Omega.{arith}
 use borrow.Author.Needs.{needs}

@@ -1,4 +1,4 @@
--- `texts::byte` meets its contract: the byte is stored, or there is no room for it and the place says so.
+-- `byte` meets its contract: the byte is stored, or there is no room for it and the place says so.
 use borrow.Author.Tests.{lt-ltb, le-ltb}
 use borrow.Author.Needs.{needs}
 use Rattle.text_writing.specs.Sheet.{put}

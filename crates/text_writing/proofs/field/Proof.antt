@@ -1,4 +1,4 @@
--- `texts::field` meets its contract: the word, and then the number.
+-- `field` meets its contract: the word, and then the number.
 use borrow.Author.Needs.{needs}
 use Rattle.text_writing.specs.Sheet.{sheet}
 use Rattle.text_writing.proofs.Sheets.{and-then}

@@ -1,4 +1,4 @@
--- `texts::words` meets its contract: after i turns the first i bytes of the text are put.
+-- `words` meets its contract: after i turns the first i bytes of the text are put.
 use Prim.Native.Nat.{_-_, _≤_}
 use mathlib.Core.Path.{_≡_, refl, ap, _∙_}
 use native.Mathlib.Numerals.{add-one}

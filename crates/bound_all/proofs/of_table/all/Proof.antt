@@ -1,5 +1,4 @@
--- `of_table::all` meets its contract: the table's own answer first, then the room, then the bounds; only where all three are good are
--- the lent cells touched.
+-- `of_table::all` meets its contract: the table's own answer first, then the room, then the bounds; only where all three are good are the lent cells touched.
 use mathlib.Core.Path.{_≡_, refl, sym, _∙_}
 use borrow.Author.Needs.{needs}
 use borrow.Author.Tests.{le-leb, lt-leb}

@@ -1,4 +1,4 @@
--- `of_table::row_of` meets its contract. Before each turn the positions passed have bounds, and these stand in the row.
+-- `of_table::row_of` meets its contract: before each turn the positions passed have bounds, and these stand in the row.
 use Prim.Native.Nat.{ℕ, _-_, _≤_, _<_}
 use mathlib.Core.Path.{_≡_, refl, sym, ap, _∙_}
 use native.Mathlib.Numerals.{add-one}
@@ -6,6 +6,7 @@ use native.Mathlib.Omega.{arith}
 use lib.ListN.{replicate}
 use Rattle.laws.specs.Stores.{filled}
 use Rattle.laws.proofs.Stores.{filled-below}
+use Rattle.laws.proofs.Tests.{impossible}
 use Rattle.table_rules.specs.declared.Answer.the-variants.{Accepted, Refused}
 use Rattle.table_rules.specs.Judging.{firstFault}
 use Rattle.table_rules.proofs.Faults.{none-more, found-at}
@@ -49,7 +50,7 @@ enum-told : tie.Need-enum-told Inv-loop μ-loop
 enum-told c = c .match .keys2
 
 not-accepted : (n p : ℕ) → Refused n p ≡ Accepted → ⊥
-not-accepted n p e = let z : _≡_ {A = ℕ} 0 1 = cc in omega arith
+not-accepted n p e = impossible cc
 
 returns : tie.Need-returns Inv-loop μ-loop
 returns c =

@@ -1,5 +1,5 @@
--- `search::search` meets its contract: R is at most every number that fits, so the first R that fits is the smallest, and past the
--- deadline there is none. Each turn raises R.
+-- `search::search` meets its contract: R is at most every number that fits, so the first R that fits is the smallest, and past the deadline there is none.
+-- Each turn raises R.
 use Prim.Native.Nat.{ℕ, _+_, _-_, _≤_}
 use mathlib.Core.Path.{_≡_, sym}
 use native.Mathlib.Nat.{le-trans}

@@ -1,4 +1,4 @@
--- `log_cases::logs::alike` is safe and ends: 20 turns, within both slices.
+-- `reads::alike` is safe and ends: 20 turns, within both slices.
 use Prim.Native.Nat.{_-_, _≤_}
 use borrow.Author.Needs.{needs}
 use Rattle.case_logs.proofs.reads.alike.Statement.{statement}

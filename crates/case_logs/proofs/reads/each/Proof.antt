@@ -1,4 +1,4 @@
--- `log_cases::logs::each` is safe and ends: the place moves on by each part, within the input.
+-- `reads::each` is safe and ends: the place moves on by each part, within the input.
 use Prim.Native.Nat.{_-_}
 use lib.ListN.{length}
 use borrow.Author.Needs.{needs}

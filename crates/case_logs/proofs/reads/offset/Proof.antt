@@ -1,4 +1,4 @@
--- `log_cases::logs::offset` is safe: the rest is a part of the log.
+-- `reads::offset` is safe: the rest is a part of the log.
 use native.Mathlib.Omega.{arith}
 use borrow.Author.Needs.{needs}
 use lib.ListN.{length-drop}

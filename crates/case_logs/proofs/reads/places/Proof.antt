@@ -1,4 +1,4 @@
--- `log_cases::logs::places` is safe and ends: `i` stays at or below the count.
+-- `reads::places` is safe and ends: `i` stays at or below the count.
 use Prim.Native.Nat.{_-_, _≤_}
 use borrow.Author.Needs.{needs}
 use Rattle.case_logs.proofs.reads.places.Statement.{statement}

@@ -1,4 +1,4 @@
--- `log_cases::logs::sums_of` is safe and ends: each turn is within the log, and leaves 20 bytes fewer.
+-- `reads::sums_of` is safe and ends: each turn is within the log, and leaves 20 bytes fewer.
 use Prim.Native.Nat.{_-_}
 use borrow.Author.Needs.{needs}
 use lib.ListN.{length}

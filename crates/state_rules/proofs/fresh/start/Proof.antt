@@ -26,7 +26,8 @@ returns c =
     rw (sym (j .ensures) ∙ g .1, g .1, c .no-state .ensures)
 
 filled-by-requires : tie.Need-filled-by-requires
-filled-by-requires c κs = judged-accepted (c .before .before .before .args .table) .0 (sym (c .before .before .judge .ensures) ∙ c .enum-told .given .1) .0 .most
+filled-by-requires c κs =
+    judged-accepted (c .before .before .before .args .table) .0 (sym (c .before .before .judge .ensures) ∙ c .enum-told .given .1) .0 .most
 
 returns-2 : tie.Need-returns-2
 unfolding started

@@ -60,7 +60,8 @@ returns-4 c =
     let b = c .before .before .before .before in
     let s = b .before .before .before .before .args .t1 in
     rw (le-leb _ _ (b .before .before .before .if1 .left), le-leb _ _ (b .before .before .if2 .left), le-leb _ _ (b .before .if3 .left))
-    (sym (one-fails (s .records) (s .clock) (s .count) (b .loop .i) (c .before .before .before .loop-test .taken) (sym (c .before .sound .ensures) ∙ c .if4 .left)))
+    (sym (one-fails (s .records) (s .clock) (s .count) (b .loop .i) (c .before .before .before .loop-test .taken)
+    (sym (c .before .sound .ensures) ∙ c .if4 .left)))
 
 returns-5 : tie.Need-returns-5 Inv-loop μ-loop
 unfolding stateHolds
@@ -68,7 +69,8 @@ returns-5 c =
     let b = c .before in
     let s = b .before .before .before .before .args .t1 in
     let e : b .loop .i ≡ s .count = omega arith in
-    rw (le-leb _ _ (b .before .before .before .if1 .left), le-leb _ _ (b .before .before .if2 .left), le-leb _ _ (b .before .if3 .left)) (sym (rw e at (b .loop .inv .1)))
+    rw (le-leb _ _ (b .before .before .before .if1 .left), le-leb _ _ (b .before .before .if2 .left), le-leb _ _ (b .before .if3 .left))
+    (sym (rw e at (b .loop .inv .1)))
 
 pub is-sound-spec : {M : Type 1} → statement M
 is-sound-spec =

@@ -1,4 +1,4 @@
--- `reading::read` meets its contract: `readTable` goes by the same tests of the length.
+-- `table::read` meets its contract: `readTable` makes the same tests of the length.
 use mathlib.Core.Path.{_∙_}
 use borrow.Author.Needs.{needs}
 use borrow.Author.Tests.{eq-eqb, ne-eqb, le-leb, lt-leb}

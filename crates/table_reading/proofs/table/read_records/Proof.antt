@@ -1,4 +1,4 @@
--- `reading::read_records` meets its contract. Before each turn the records passed have no fault and their tasks stand in the table.
+-- `table::read_records` meets its contract: before each turn the records passed have no fault, and their tasks stand in the table.
 use Prim.Native.Nat.{ℕ, _+_, _-_, _*_, _≤_, _<_}
 use mathlib.Core.Path.{_≡_, refl, sym, _∙_}
 use mathlib.Core.List.{List}

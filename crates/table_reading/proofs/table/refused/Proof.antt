@@ -1,4 +1,4 @@
--- `reading::refused` meets its contract.
+-- `table::refused` meets its contract: the table beside the refusal is the empty one.
 use borrow.Author.Needs.{needs}
 use Rattle.table_reading.proofs.table.refused.Statement.{statement}
 use Rattle.table_reading.proofs.table.refused.Tie as tie

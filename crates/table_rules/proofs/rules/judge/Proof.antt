@@ -1,4 +1,4 @@
--- `rules::judge` meets its contract. Before each turn no position passed has a fault, so a fault met is the first.
+-- `rules::judge` meets its contract: before each turn no position passed has a fault, so a fault that is met is the first.
 use Prim.Native.Nat.{_-_, _≤_}
 use mathlib.Core.Path.{_≡_, refl, sym, _∙_}
 use native.Mathlib.Numerals.{add-one}

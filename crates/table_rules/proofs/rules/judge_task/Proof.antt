@@ -1,4 +1,4 @@
--- `rules::judge_task` meets its contract: `taskFault` goes by the same two tests.
+-- `rules::judge_task` meets its contract: `taskFault` makes the same two tests.
 use mathlib.Core.Path.{sym, _∙_}
 use borrow.Author.Needs.{needs}
 use Rattle.table_rules.specs.Rules.{taskFault}

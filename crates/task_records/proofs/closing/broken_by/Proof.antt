@@ -1,4 +1,4 @@
--- `closing::broken_by` meets its contract: `brokenBy` goes by the same tests.
+-- `closing::broken_by` meets its contract: `brokenBy` makes the same tests.
 use borrow.Author.Tests.{eq-eqb, ne-eqb, lt-ltb, le-ltb}
 use borrow.Author.Needs.{needs}
 use Rattle.task_records.proofs.closing.broken_by.Statement.{statement}

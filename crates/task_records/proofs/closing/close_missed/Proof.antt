@@ -35,7 +35,8 @@ returns c =
     let d = s .before .before in
     let r = d .before .before .args .of in
     let l = toZ-ofZ w32 (c .low .result) (record { sfits = c .low .ok }) ∙ c .low .ensures ∙ ap lowest (c .before .h .ensures) in
-    back-is r (toZ w32 (ofZ w32 (c .low .result))) _ _ _ (sym (s .sets-back .ensures) ∙ c .before .before .if1 .taken) l (s .before .next .ensures) (d .before .push .ensures) (d .broken-by .ensures)
+    back-is r (toZ w32 (ofZ w32 (c .low .result))) _ _ _ (sym (s .sets-back .ensures) ∙ c .before .before .if1 .taken) l (s .before .next .ensures)
+    (d .before .push .ensures) (d .broken-by .ensures)
 
 add-r : tie.Need-add-r
 add-r c =
