@@ -1,19 +1,10 @@
 // Framed table bytes on standard input (two bytes of size, then the bytes): a line for each, with each task's bound and what all say.
 use bound_one::Bound;
+use case_frames::print::number;
+use case_frames::print::text;
 use libc::STDIN_FILENO;
-use libc::STDOUT_FILENO;
 use table_rules::Answer;
 use table_rules::Table;
-
-fn text(words: &[u8]) {
-    io::write_all(STDOUT_FILENO, words);
-}
-
-// Words, then a number.
-fn number(words: &[u8], n: u64) {
-    io::write_all(STDOUT_FILENO, words);
-    io::print_decimal(STDOUT_FILENO, n);
-}
 
 fn refusal(words: &[u8], n: u8, p: usize) {
     number(words, n as u64);

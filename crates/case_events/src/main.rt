@@ -1,5 +1,4 @@
 // Prints how the library judges and writes each of a list of event values.
-mod print;
 mod values;
 
 fn main() {

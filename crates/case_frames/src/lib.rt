@@ -1,4 +1,6 @@
-// Parts of an input one behind the other, each behind its size in two bytes, the lower first.
+// What the programs of cases share: parts of an input one behind the other, each behind its size in two bytes, the lower first; and printing.
+pub mod print;
+
 ghost use Prim.Native.Nat.{_<_};
 ghost use mathlib.Core.Path.{_≡_};
 ghost use lib.ListN.{getD};

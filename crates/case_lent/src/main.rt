@@ -4,17 +4,8 @@ mod events_of;
 mod runs;
 mod same;
 
-use libc::STDOUT_FILENO;
-
-fn text(words: &[u8]) {
-    io::write_all(STDOUT_FILENO, words);
-}
-
-// Words, then a number.
-fn number(words: &[u8], n: u64) {
-    io::write_all(STDOUT_FILENO, words);
-    io::print_decimal(STDOUT_FILENO, n);
-}
+use case_frames::print::number;
+use case_frames::print::text;
 
 fn line(n: usize, times: u64) {
     if n == 16 {

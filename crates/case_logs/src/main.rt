@@ -1,5 +1,4 @@
 // Prints what the library says of each log of standard input. A log stands behind its size in two bytes.
-mod print;
 mod reads;
 
 use libc::STDIN_FILENO;

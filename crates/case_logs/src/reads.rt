@@ -1,8 +1,8 @@
 // One log after the other: how many records read, where and why the reading stopped, and what the records hold.
-use crate::print::number;
-use crate::print::row;
-use crate::print::text;
-use crate::print::wide;
+use case_frames::print::number;
+use case_frames::print::row;
+use case_frames::print::text;
+use case_frames::print::wide;
 use event_reading::Event;
 use event_reading::Reading;
 use event_writing::Writing;

@@ -1,5 +1,4 @@
 // Framed tables and logs on standard input (two bytes of size before each): what every event answers, and what the tasks then hold.
-mod print;
 mod runs;
 
 use libc::STDIN_FILENO;

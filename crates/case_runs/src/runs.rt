@@ -1,8 +1,8 @@
 // One table and one log: the answer to each event, and the tasks at the end.
-use super::print::number;
-use super::print::text;
 use apply_engine::apply::apply;
 use apply_events::Answer;
+use case_frames::print::number;
+use case_frames::print::text;
 use event_logs::Ending;
 use event_reading::Reading;
 use state_rules::State;
