@@ -166,8 +166,7 @@ module _ {M : Type 1} (𝓤 : URA M) (H : Heap 𝓤) (A : Atoms 𝓤) (W : Given
       qed W (later (some (λ (r : D .Denot). ((‵ (flft (ν ∷ []) fullShare) ⊛ ‵ ftrue) ⊛ ‵ (D .own r (v ∷ []))) ⊛ raw (said r))) ∷ []) ∵ updating ! $
       await ! tt $ pick ! (λ r. split ! $
       move ! (1 ∷ []) $ use1 W (some (λ (z : Z). ‵ (last z) ⊛ raw (fact 𝓤 (φ r z)))) (h r) $ pick ! (λ z. at-once ! $
-      show !
-      (λ (r′ : D .Denot). ex 𝓤 (λ (z′ : Z). sep 𝓤 (A .lft (ν ∷ []) fullShare)
+      show ! (λ (r′ : D .Denot). ex 𝓤 (λ (z′ : Z). sep 𝓤 (A .lft (ν ∷ []) fullShare)
       (sep 𝓤 (sem 𝓤 H A (D .own r′ (v ∷ []))) (sep 𝓤 (sem 𝓤 H A (last z′)) (fact 𝓤 (φ r′ z′)))))) r $
       show ! (λ (z′ : Z). sep 𝓤 (A .lft (ν ∷ []) fullShare) (sep 𝓤 (sem 𝓤 H A (D .own r (v ∷ []))) (sep 𝓤 (sem 𝓤 H A (last z′)) (fact 𝓤 (φ r z′))))) z $
       move ! (1 ∷ []) $ split ! $ split ! $ frame ! $ drop ! $ frame ! $ done !))

@@ -158,10 +158,8 @@ module _ {M : Type 1} (𝓤 : URA M) (H : Heap 𝓤) (A : Atoms 𝓤) (W : Given
     walk =
         qed W (‵ ftrue ∷ ‵ (owns (Array R.the-row size ∷ usize ∷ u64 ∷ E.the-row ∷ []) a at) ∷ []) ∵
         enter ! C Λ code.function (av ∷ vint w64 n ∷ vint w64 c ∷ event-val e ∷ []) _ $
-        alloc1 !
-        (λ l₀. alloc1 !
-        (λ l₁. alloc1 !
-        (λ l₂. alloc1 ! (λ l₃. alloc1 ! (λ l₄. alloc1 ! (λ l₅. alloc1 ! (λ l₆. alloc1 ! (λ l₇. alloc1 ! (λ l₈. alloc1 ! (λ l₉. alloc0 ! $ params1 ! $
+        alloc1 ! (λ l₀. alloc1 ! (λ l₁. alloc1 ! (λ l₂. alloc1 ! (λ l₃. alloc1 ! (λ l₄. alloc1 ! (λ l₅. alloc1 ! (λ l₆. alloc1 ! (λ l₇. alloc1 ! (λ l₈.
+        alloc1 ! (λ l₉. alloc0 ! $ params1 ! $
         pass1 ! (init ! (L 1) refl (typed ys av was)) $ pass1 ! (init ! (L 2) refl (tt, record { fits = n-fits })) $
         pass1 ! (init ! (L 3) refl (tt, record { fits = c-fits })) $
         pass1 ! (init ! (L 4) refl (LL.lawful E.the-type E′.the-laws 𝓤 H A W .typed e _ e-is .0)) $ pass0 ! $

@@ -239,10 +239,9 @@ module _ {M : Type 1} (𝓤 : URA M) (H : Heap 𝓤) (A : Atoms 𝓤) (W : Given
           (λ accepts.
           assigns ! (addr ! (from ! (fld ! refl (hop ! (look-in ! (4 + L 1) (sub ! 0 refl (whole !))) (stop !))))) (from ! (stop !))
           (init ! (4 + L 10) refl (tt, tt)) $
-          assigns !
-          (agg ! (and-then ! (load ! (from ! (stop !)) (look ! (4 + L 10) refl))
-          (and-then ! (load ! (from ! (fld ! refl (stop !))) (look-in ! (4 + L 1) (sub ! 1 refl (whole !)))) (no-more !)))) (from ! (stop !)) (init !
-          (4 + L 11) refl (tt, (tt, (record { fits = room .0 }, tt)))) $
+          assigns ! (agg ! (and-then ! (load ! (from ! (stop !)) (look ! (4 + L 10) refl))
+          (and-then ! (load ! (from ! (fld ! refl (stop !))) (look-in ! (4 + L 1) (sub ! 1 refl (whole !)))) (no-more !)))) (from ! (stop !))
+          (init ! (4 + L 11) refl (tt, (tt, (record { fits = room .0 }, tt)))) $
           -- the row is lent to `settle_in`
           calls-lent ! fm (lent-row 𝓤 H A W R.the-row ys b o room) (SettleIn 𝓤 H A at-mem run) (known .settle-in)
           (to-settle-in 𝓤 H A at-mem run ys b o e (r .after))
@@ -279,12 +278,8 @@ module _ {M : Type 1} (𝓤 : URA M) (H : Heap 𝓤) (A : Atoms 𝓤) (W : Given
         fsplit ! $ drop ! $ fsplit ! $ move ! (0 ∷ 1 ∷ 3 ∷ []) $
         -- [obs; the borrow; the token; what the others own; true]
         enter ! C Λ code.function (sv ∷ vint w64 c ∷ event-val e ∷ []) _ $
-        alloc1 !
-        (λ l₀. alloc1 !
-        (λ l₁. alloc1 !
-        (λ l₂. alloc1 !
-        (λ l₃. alloc1 !
-        (λ l₄. alloc1 ! (λ l₅. alloc1 ! (λ l₆. alloc1 ! (λ l₇. alloc1 ! (λ l₈. alloc1 ! (λ l₉. alloc1 ! (λ l₁₀. alloc1 ! (λ l₁₁. alloc0 ! $ params1 ! $
+        alloc1 ! (λ l₀. alloc1 ! (λ l₁. alloc1 ! (λ l₂. alloc1 ! (λ l₃. alloc1 ! (λ l₄. alloc1 ! (λ l₅. alloc1 ! (λ l₆. alloc1 ! (λ l₇. alloc1 ! (λ l₈.
+        alloc1 ! (λ l₉. alloc1 ! (λ l₁₀. alloc1 ! (λ l₁₁. alloc0 ! $ params1 ! $
         pass1 ! (init ! (L 1) refl (mut-slice-lawful 𝓤 H A W (named 0) κ R.the-row .typed (under γ ys b o) (sv ∷ []) p .0)) $
         pass1 ! (init ! (L 2) refl (tt, record { fits = c-fits })) $
         pass1 ! (init ! (L 3) refl (LL.lawful E.the-type E′.the-laws 𝓤 H A W .typed e _ e-is .0)) $ pass0 ! $
@@ -292,10 +287,9 @@ module _ {M : Type 1} (𝓤 : URA M) (H : Heap 𝓤) (A : Atoms 𝓤) (W : Given
         -- [the row; the open borrow; obs; auth; each local from the last, 4 + L k; …]
         assigns ! (addr ! (from ! (fld ! refl (hop ! (look-in ! (4 + L 1) (sub ! 0 refl (whole !))) (stop !))))) (from ! (stop !))
         (init ! (4 + L 6) refl (tt, tt)) $
-        assigns !
-        (agg ! (and-then ! (load ! (from ! (stop !)) (look ! (4 + L 6) refl))
-        (and-then ! (load ! (from ! (fld ! refl (stop !))) (look-in ! (4 + L 1) (sub ! 1 refl (whole !)))) (no-more !)))) (from ! (stop !)) (init !
-        (4 + L 7) refl (tt, (tt, (record { fits = room .0 }, tt)))) $
+        assigns ! (agg ! (and-then ! (load ! (from ! (stop !)) (look ! (4 + L 6) refl))
+        (and-then ! (load ! (from ! (fld ! refl (stop !))) (look-in ! (4 + L 1) (sub ! 1 refl (whole !)))) (no-more !)))) (from ! (stop !))
+        (init ! (4 + L 7) refl (tt, (tt, (record { fits = room .0 }, tt)))) $
         -- the row is lent to `rule_in`, shared
         calls-lent ! fm (shared-row 𝓤 H A W R.the-row ys b o room) (RuleIn 𝓤 H A at-mem run) (known .rule-in) (to-rule-in 𝓤 H A at-mem run ys b o c e)
         (goes-rule-in 𝓤 H A at-mem run W ys b o c e room c-fits e-is)

@@ -253,11 +253,8 @@ module _ {M : Type 1} (𝓤 : URA M) (H : Heap 𝓤) (A : Atoms 𝓤) (W : Given
     walk p =
         qed W ((‵ (flft κ q) ⊛ ‵ ftrue) ∷ ‵ (owns (ShrSlice (named 0) κ R.the-row ∷ u64 ∷ E.the-row ∷ []) a at) ∷ []) ∵
         enter ! C Λ code.function (sv ∷ vint w64 c ∷ event-val e ∷ []) _ $
-        alloc1 !
-        (λ l₀. alloc1 !
-        (λ l₁. alloc1 !
-        (λ l₂. alloc1 !
-        (λ l₃. alloc1 ! (λ l₄. alloc1 ! (λ l₅. alloc1 ! (λ l₆. alloc1 ! (λ l₇. alloc1 ! (λ l₈. alloc1 ! (λ l₉. alloc1 ! (λ l₁₀. alloc0 ! $ params1 ! $
+        alloc1 ! (λ l₀. alloc1 ! (λ l₁. alloc1 ! (λ l₂. alloc1 ! (λ l₃. alloc1 ! (λ l₄. alloc1 ! (λ l₅. alloc1 ! (λ l₆. alloc1 ! (λ l₇. alloc1 ! (λ l₈.
+        alloc1 ! (λ l₉. alloc1 ! (λ l₁₀. alloc0 ! $ params1 ! $
         pass1 ! (init ! (L 1) refl (shr-slice-lawful 𝓤 H A W (named 0) κ R.the-row .typed s (sv ∷ []) p .0)) $
         pass1 ! (init ! (L 2) refl (tt, record { fits = c-fits })) $
         pass1 ! (init ! (L 3) refl (LL.lawful E.the-type E′.the-laws 𝓤 H A W .typed e _ e-is .0)) $ pass0 ! $

@@ -163,15 +163,8 @@ module _ {M : Type 1} (𝓤 : URA M) (H : Heap 𝓤) (A : Atoms 𝓤) (W : Given
         fsplit ! $ fsplit ! $ drop ! $ fsplit ! $ move ! (0 ∷ 1 ∷ 3 ∷ []) $
         -- [obs; the borrow; the token; what the others own; true]
         enter ! C Λ code.function (sv ∷ event-val e ∷ record-val x ∷ []) _ $
-        alloc1 !
-        (λ l₀. alloc1 !
-        (λ l₁. alloc1 !
-        (λ l₂. alloc1 !
-        (λ l₃. alloc1 !
-        (λ l₄. alloc1 !
-        (λ l₅. alloc1 !
-        (λ l₆. alloc1 !
-        (λ l₇. alloc1 ! (λ l₈. alloc1 ! (λ l₉. alloc1 ! (λ l₁₀. alloc1 ! (λ l₁₁. alloc1 ! (λ l₁₂. alloc1 ! (λ l₁₃. alloc1 ! (λ l₁₄. alloc0 ! $ params1 ! $
+        alloc1 ! (λ l₀. alloc1 ! (λ l₁. alloc1 ! (λ l₂. alloc1 ! (λ l₃. alloc1 ! (λ l₄. alloc1 ! (λ l₅. alloc1 ! (λ l₆. alloc1 ! (λ l₇. alloc1 ! (λ l₈.
+        alloc1 ! (λ l₉. alloc1 ! (λ l₁₀. alloc1 ! (λ l₁₁. alloc1 ! (λ l₁₂. alloc1 ! (λ l₁₃. alloc1 ! (λ l₁₄. alloc0 ! $ params1 ! $
         pass1 ! (init ! (L 1) refl (mut-slice-lawful 𝓤 H A W (named 0) κ R.the-row .typed (under γ ys b o) (sv ∷ []) p .0)) $
         pass1 ! (init ! (L 2) refl (LL.lawful E.the-type E′.the-laws 𝓤 H A W .typed e _ e-is .0)) $
         pass1 ! (init ! (L 3) refl (LL.lawful R.the-type R′.the-laws 𝓤 H A W .typed x _ x-is .0)) $ pass0 ! $
@@ -200,10 +193,9 @@ module _ {M : Type 1} (𝓤 : URA M) (H : Heap 𝓤) (A : Atoms 𝓤) (W : Given
         -- the row is lent to `expire_all_in`
         assigns ! (addr ! (from ! (fld ! refl (hop ! (look-in ! (4 + L 1) (sub ! 0 refl (whole !))) (stop !))))) (from ! (stop !))
         (init ! (4 + L 9) refl (tt, tt)) $
-        assigns !
-        (agg ! (and-then ! (load ! (from ! (stop !)) (look ! (4 + L 9) refl))
-        (and-then ! (load ! (from ! (fld ! refl (stop !))) (look-in ! (4 + L 1) (sub ! 1 refl (whole !)))) (no-more !)))) (from ! (stop !)) (init !
-        (4 + L 10) refl (tt, (tt, (record { fits = room .0 }, tt)))) $
+        assigns ! (agg ! (and-then ! (load ! (from ! (stop !)) (look ! (4 + L 9) refl))
+        (and-then ! (load ! (from ! (fld ! refl (stop !))) (look-in ! (4 + L 1) (sub ! 1 refl (whole !)))) (no-more !)))) (from ! (stop !))
+        (init ! (4 + L 10) refl (tt, (tt, (record { fits = room .0 }, tt)))) $
         rewrite ! (4 + L 10) (λ (j : ℕ). ‵ (fat fullShare (sliceTy mut-ref) l₁₀ 0 (sliceVal (b, o) j))) (sym stored-long) refl $
         calls-lent ! fm (lent-row 𝓤 H A W R.the-row l′ b o (as-long l′ stored-long)) (ExpireAllIn 𝓤 H A at-mem run) (known .expire-all-in)
         (to-expire-all-in 𝓤 H A at-mem run l′ b o (e .time)) (goes-expire-all-in 𝓤 H A at-mem run W l′ b o (e .time) (as-long l′ stored-long) time-fits)
@@ -214,10 +206,9 @@ module _ {M : Type 1} (𝓤 : URA M) (H : Heap 𝓤) (A : Atoms 𝓤) (W : Given
         -- and, shared, to `choose_in`
         assigns ! (addr ! (from ! (fld ! refl (hop ! (look-in ! (4 + L 1) (sub ! 0 refl (whole !))) (stop !))))) (from ! (stop !))
         (init ! (4 + L 11) refl (tt, tt)) $
-        assigns !
-        (agg ! (and-then ! (load ! (from ! (stop !)) (look ! (4 + L 11) refl))
-        (and-then ! (load ! (from ! (fld ! refl (stop !))) (look-in ! (4 + L 1) (sub ! 1 refl (whole !)))) (no-more !)))) (from ! (stop !)) (init !
-        (4 + L 12) refl (tt, (tt, (record { fits = room .0 }, tt)))) $
+        assigns ! (agg ! (and-then ! (load ! (from ! (stop !)) (look ! (4 + L 11) refl))
+        (and-then ! (load ! (from ! (fld ! refl (stop !))) (look-in ! (4 + L 1) (sub ! 1 refl (whole !)))) (no-more !)))) (from ! (stop !))
+        (init ! (4 + L 12) refl (tt, (tt, (record { fits = room .0 }, tt)))) $
         rewrite ! (4 + L 12) (λ (j : ℕ). ‵ (fat fullShare (sliceTy shr-ref) l₁₂ 0 (sliceVal (b, o) j))) (sym (rows .0 ∙ stored-long)) refl $
         calls-lent ! fm (shared-row 𝓤 H A W R.the-row zs b o (as-long zs (rows .0 ∙ stored-long))) (ChooseIn 𝓤 H A at-mem run) (known .choose-in)
         (to-choose-in 𝓤 H A at-mem run zs b o) (goes-choose-in 𝓤 H A at-mem run W zs b o (as-long zs (rows .0 ∙ stored-long)))

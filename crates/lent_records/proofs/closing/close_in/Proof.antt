@@ -91,10 +91,8 @@ module _ {M : Type 1} (𝓤 : URA M) (H : Heap 𝓤) (A : Atoms 𝓤) (W : Given
         drop ! $ move ! (0 ∷ 1 ∷ 3 ∷ []) $
         -- [obs; the borrow; the token; what met owns; true]
         enter ! C Λ code.function (vptr b o ∷ vbool m ∷ []) _ $
-        alloc1 !
-        (λ l₀. alloc1 !
-        (λ l₁. alloc1 !
-        (λ l₂. alloc1 ! (λ l₃. alloc1 ! (λ l₄. alloc0 ! $ params1 ! $ pass1 ! (init ! (L 1) refl (tt, tt)) $ pass1 ! (init ! (L 2) refl (tt, tt)) $ pass0 ! $
+        alloc1 ! (λ l₀. alloc1 ! (λ l₁. alloc1 ! (λ l₂. alloc1 ! (λ l₃. alloc1 ! (λ l₄. alloc0 ! $ params1 ! $ pass1 ! (init ! (L 1) refl (tt, tt)) $
+        pass1 ! (init ! (L 2) refl (tt, tt)) $ pass0 ! $
         move ! (10 ∷ 11 ∷ 12 ∷ []) $ opens ! tt R.the-row {h = h} b o
         (λ vs. spelt ! R.the-row (Is R.the-row) (shows 𝓤 H A R.the-row) record-vals (LL.tells R.the-type R′.the-laws) fullShare h vs b o $
         move ! (1 ∷ []) $ peeks ! R.the-row (Is R.the-row) (shows 𝓤 H A R.the-row) h (record-vals h) (λ was. drop ! $

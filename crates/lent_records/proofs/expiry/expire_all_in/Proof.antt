@@ -228,9 +228,8 @@ module _ {M : Type 1} (𝓤 : URA M) (H : Heap 𝓤) (A : Atoms 𝓤) (W : Given
         drop ! $ fsplit ! $ move ! (0 ∷ 1 ∷ 3 ∷ []) $
         -- [obs; the borrow; the token; what the time owns; true]
         enter ! C Λ code.function (sv ∷ vint w64 t ∷ []) _ $
-        alloc1 !
-        (λ l₀. alloc1 !
-        (λ l₁. alloc1 ! (λ l₂. alloc1 ! (λ l₃. alloc1 ! (λ l₄. alloc1 ! (λ l₅. alloc1 ! (λ l₆. alloc1 ! (λ l₇. alloc1 ! (λ l₈. alloc0 ! $ params1 ! $
+        alloc1 ! (λ l₀. alloc1 ! (λ l₁. alloc1 ! (λ l₂. alloc1 ! (λ l₃. alloc1 ! (λ l₄. alloc1 ! (λ l₅. alloc1 ! (λ l₆. alloc1 ! (λ l₇.
+        alloc1 ! (λ l₈. alloc0 ! $ params1 ! $
         pass1 ! (init ! (L₀ 1) refl (mut-slice-lawful 𝓤 H A W (named 0) κ R.the-row .typed (under γ ys b o) (sv ∷ []) p .0)) $
         pass1 ! (init ! (L₀ 2) refl (tt, record { fits = t-fits })) $ pass0 ! $
         assigns ! (of-opd ! (lit ! tt)) (from ! (stop !)) (init ! (L₀ 3) refl (tt, record { fits = lit< tt })) $

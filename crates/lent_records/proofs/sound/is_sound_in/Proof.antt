@@ -258,10 +258,8 @@ module _ {M : Type 1} (𝓤 : URA M) (H : Heap 𝓤) (A : Atoms 𝓤) (W : Given
         → ent 𝓤 (onEntry 𝓤 H A is-sound-in.signature (κ, tt) (q, tt) a at) (WpFn 𝓤 H C Λ code.function (sv ∷ vint w64 c ∷ []) Post)
     walk p =
         qed W ((‵ (flft κ q) ⊛ ‵ ftrue) ∷ ‵ (owns (ShrSlice (named 0) κ R.the-row ∷ u64 ∷ []) a at) ∷ []) ∵ enter ! C Λ code.function (sv ∷ vint w64 c ∷ []) _ $
-        alloc1 !
-        (λ l₀. alloc1 !
-        (λ l₁. alloc1 !
-        (λ l₂. alloc1 ! (λ l₃. alloc1 ! (λ l₄. alloc1 ! (λ l₅. alloc1 ! (λ l₆. alloc1 ! (λ l₇. alloc1 ! (λ l₈. alloc1 ! (λ l₉. alloc0 ! $ params1 ! $
+        alloc1 ! (λ l₀. alloc1 ! (λ l₁. alloc1 ! (λ l₂. alloc1 ! (λ l₃. alloc1 ! (λ l₄. alloc1 ! (λ l₅. alloc1 ! (λ l₆. alloc1 ! (λ l₇. alloc1 ! (λ l₈.
+        alloc1 ! (λ l₉. alloc0 ! $ params1 ! $
         pass1 ! (init ! (L₀ 1) refl (shr-slice-lawful 𝓤 H A W (named 0) κ R.the-row .typed s (sv ∷ []) p .0)) $
         pass1 ! (init ! (L₀ 2) refl (tt, record { fits = c-fits })) $ pass0 ! $
         -- [each local from the last, `L₀ k`; the token, L₀ 0 + 2; what the parameters own]
