@@ -1,5 +1,5 @@
 // Table bytes, 16 a task, and what they read as: one record, then the whole table.
-pub mod row;
+pub mod record;
 pub mod table;
 
 use table_rules::Answer;

@@ -1,7 +1,7 @@
 // Reading table bytes: 1 first, then record by record 2, 3, 4.
 use super::Row;
 use super::TableRead;
-use super::row::read_task;
+use super::record::read_task;
 use table_rules::Answer;
 use table_rules::Table;
 use table_rules::Task;

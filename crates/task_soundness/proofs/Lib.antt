@@ -1,4 +1,4 @@
 -- What is shown of soundness beside the functions' contracts.
-pub mod Counts
+pub mod Balance
 pub mod Kept
 pub mod Sounding

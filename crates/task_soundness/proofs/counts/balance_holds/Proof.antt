@@ -5,7 +5,7 @@ use native.Mathlib.Omega.{arith}
 use borrow.Author.Tests.{ne-eqb}
 use borrow.Author.Needs.{needs}
 use Rattle.task_soundness.specs.Counts.{openOf}
-use Rattle.task_soundness.proofs.Counts.{balance-is}
+use Rattle.task_soundness.proofs.Balance.{balance-is}
 use Rattle.task_soundness.proofs.counts.balance_holds.Statement.{statement}
 use Rattle.task_soundness.proofs.counts.balance_holds.Tie as tie
 

@@ -6,8 +6,8 @@ use borrow.Author.Needs.{needs}
 use lib.ListN.{take}
 use Rattle.laws.proofs.Parts.{tail-is}
 use Rattle.number_reading.specs.Words.{number}
-use Rattle.table_reading.proofs.row.task_of.Statement.{statement}
-use Rattle.table_reading.proofs.row.task_of.Tie as tie
+use Rattle.table_reading.proofs.record.task_of.Statement.{statement}
+use Rattle.table_reading.proofs.record.task_of.Tie as tie
 
 abbrev field : List ℕ → ℕ
 field l = number (take 4 l)

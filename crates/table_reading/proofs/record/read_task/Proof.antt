@@ -9,8 +9,8 @@ use Rattle.table_reading.specs.declared.Row.the-variants as Row
 use Rattle.table_rules.specs.Rules.{taskFault}
 use Rattle.table_reading.specs.Row.{taskOf}
 use Rattle.table_reading.proofs.Rows.{not-16, first-wrong, second-wrong, marked, row-refused, row-task}
-use Rattle.table_reading.proofs.row.read_task.Statement.{statement}
-use Rattle.table_reading.proofs.row.read_task.Tie as tie
+use Rattle.table_reading.proofs.record.read_task.Statement.{statement}
+use Rattle.table_reading.proofs.record.read_task.Tie as tie
 
 -- a byte of the copy is the slice's
 byte-of : {s t : List ℕ} (i : ℕ) → t ≡ s → getD t i 0 ≡ getD s i 0

@@ -6,8 +6,8 @@ use native.Mathlib.Omega.{arith}
 use lib.ListN.{getD, length, replicate}
 use Rattle.laws.specs.Stores.{filled}
 use Rattle.laws.proofs.Stores.{filled-whole}
-use Rattle.table_reading.proofs.row.copied.Statement.{statement}
-use Rattle.table_reading.proofs.row.copied.Tie as tie
+use Rattle.table_reading.proofs.record.copied.Statement.{statement}
+use Rattle.table_reading.proofs.record.copied.Tie as tie
 
 abbrev Inv-loop : tie.InvT-loop
 Inv-loop bytes copy₀ i₀ copy i = (i ≤ 16) × (copy ≡ filled (λ (j : ℕ). getD bytes j 0) i (replicate 16 0))
