@@ -1,5 +1,5 @@
 // Step 1 of an event over a lent row: every late job is closed where it stands.
-use lent_records::closing::expire_in;
+use super::closing::expire_in;
 use task_records::Record;
 ghost use mathlib.Core.Path.{_≡_};
 ghost use Rattle.lent_records.specs.Expiry.{expiredRow};

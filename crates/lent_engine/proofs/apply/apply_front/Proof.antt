@@ -202,5 +202,5 @@ apply-front-spec 𝓤 H 𝓜 𝓖 𝓡 =
     entered 𝓤 H (tripleOf 𝓤 H (𝓖 .A) apply-front.signature (apply-front.spec 𝓤 H (𝓖 .A) (𝓜 .mem) (𝓡 .run)))
     (tables 𝓤 H 𝓜 𝓡 code.env .C) (tables 𝓤 H 𝓜 𝓡 code.env .Λ) #in-place·apply·apply-front code.function (code.unfolded 𝓤 H 𝓜 𝓡)
     (apply-front-meets 𝓤 H (𝓖 .A) (givenOf 𝓤 H 𝓜 𝓖) (𝓜 .mem) (𝓡 .run) (tablesOf 𝓤 H 𝓜 (tables 𝓤 H 𝓜 𝓡 code.env))
-    (cited 𝓤 H (ApplyIn 𝓤 H (𝓖 .A) (𝓜 .mem) (𝓡 .run)) 𝓜 𝓡 code.env #in-place·apply·apply-in apply-in-def.routine code.calls-in-place·apply·apply-in (apply-in-thm.met 𝓤 H 𝓜 𝓖 𝓡))
-    (cited 𝓤 H (Placed 𝓤 H (𝓖 .A) (𝓜 .mem) (𝓡 .run)) 𝓜 𝓡 code.env #turns·steps·placed placed-def.routine code.calls-turns·steps·placed (placed-thm.met 𝓤 H 𝓜 𝓖 𝓡)))
+    (cited 𝓤 H (ApplyIn 𝓤 H (𝓖 .A) (𝓜 .mem) (𝓡 .run)) 𝓜 𝓡 code.env #in-place·apply·apply-in apply-in-def.routine code.calls-lent-engine·apply·apply-in (apply-in-thm.met 𝓤 H 𝓜 𝓖 𝓡))
+    (cited 𝓤 H (Placed 𝓤 H (𝓖 .A) (𝓜 .mem) (𝓡 .run)) 𝓜 𝓡 code.env #turns·steps·placed placed-def.routine code.calls-lent-answers·steps·placed (placed-thm.met 𝓤 H 𝓜 𝓖 𝓡)))

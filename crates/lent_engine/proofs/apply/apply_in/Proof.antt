@@ -276,9 +276,9 @@ apply-in-spec 𝓤 H 𝓜 𝓖 𝓡 =
     (tables 𝓤 H 𝓜 𝓡 code.env .C) (tables 𝓤 H 𝓜 𝓡 code.env .Λ) #in-place·apply·apply-in code.function (code.unfolded 𝓤 H 𝓜 𝓡)
     (apply-in-meets 𝓤 H (𝓖 .A) (givenOf 𝓤 H 𝓜 𝓖) (𝓜 .mem) (𝓡 .run) (tablesOf 𝓤 H 𝓜 (tables 𝓤 H 𝓜 𝓡 code.env))
     (record {
-      rule-in = cited 𝓤 H (RuleIn 𝓤 H (𝓖 .A) (𝓜 .mem) (𝓡 .run)) 𝓜 𝓡 code.env #in-place·apply·rule-in rule-in-def.routine code.calls-in-place·apply·rule-in (rule-in-thm.met 𝓤 H 𝓜 𝓖 𝓡);
-      settle-in = cited 𝓤 H (SettleIn 𝓤 H (𝓖 .A) (𝓜 .mem) (𝓡 .run)) 𝓜 𝓡 code.env #in-place·apply·settle-in settle-in-def.routine code.calls-in-place·apply·settle-in (settle-in-thm.met 𝓤 H 𝓜 𝓖 𝓡);
-      accepted-turn = cited 𝓤 H (AcceptedTurn 𝓤 H (𝓖 .A) (𝓜 .mem) (𝓡 .run)) 𝓜 𝓡 code.env #turns·steps·accepted-turn accepted-turn-def.routine code.calls-turns·steps·accepted-turn (accepted-turn-thm.met 𝓤 H 𝓜 𝓖 𝓡);
-      refused-turn = cited 𝓤 H (RefusedTurn 𝓤 H (𝓖 .A) (𝓜 .mem) (𝓡 .run)) 𝓜 𝓡 code.env #turns·steps·refused-turn refused-turn-def.routine code.calls-turns·steps·refused-turn (refused-turn-thm.met 𝓤 H 𝓜 𝓖 𝓡);
+      rule-in = cited 𝓤 H (RuleIn 𝓤 H (𝓖 .A) (𝓜 .mem) (𝓡 .run)) 𝓜 𝓡 code.env #in-place·apply·rule-in rule-in-def.routine code.calls-lent-engine·apply·rule-in (rule-in-thm.met 𝓤 H 𝓜 𝓖 𝓡);
+      settle-in = cited 𝓤 H (SettleIn 𝓤 H (𝓖 .A) (𝓜 .mem) (𝓡 .run)) 𝓜 𝓡 code.env #in-place·apply·settle-in settle-in-def.routine code.calls-lent-engine·apply·settle-in (settle-in-thm.met 𝓤 H 𝓜 𝓖 𝓡);
+      accepted-turn = cited 𝓤 H (AcceptedTurn 𝓤 H (𝓖 .A) (𝓜 .mem) (𝓡 .run)) 𝓜 𝓡 code.env #turns·steps·accepted-turn accepted-turn-def.routine code.calls-lent-answers·steps·accepted-turn (accepted-turn-thm.met 𝓤 H 𝓜 𝓖 𝓡);
+      refused-turn = cited 𝓤 H (RefusedTurn 𝓤 H (𝓖 .A) (𝓜 .mem) (𝓡 .run)) 𝓜 𝓡 code.env #turns·steps·refused-turn refused-turn-def.routine code.calls-lent-answers·steps·refused-turn (refused-turn-thm.met 𝓤 H 𝓜 𝓖 𝓡);
     }
     ))

@@ -261,9 +261,9 @@ rule-in-spec 𝓤 H 𝓜 𝓖 𝓡 =
     (tables 𝓤 H 𝓜 𝓡 code.env .C) (tables 𝓤 H 𝓜 𝓡 code.env .Λ) #in-place·apply·rule-in code.function (code.unfolded 𝓤 H 𝓜 𝓡)
     (rule-in-meets 𝓤 H (𝓖 .A) (givenOf 𝓤 H 𝓜 𝓖) (𝓜 .mem) (𝓡 .run) (tablesOf 𝓤 H 𝓜 (tables 𝓤 H 𝓜 𝓡 code.env))
     (record {
-      is-sound-in = cited 𝓤 H (IsSoundIn 𝓤 H (𝓖 .A) (𝓜 .mem) (𝓡 .run)) 𝓜 𝓡 code.env #lent-rows·sound·is-sound-in is-sound-in-def.routine code.calls-lent-rows·sound·is-sound-in (is-sound-in-thm.met 𝓤 H 𝓜 𝓖 𝓡);
-      seat-of = cited 𝓤 H (SeatOf 𝓤 H (𝓖 .A) (𝓜 .mem) (𝓡 .run)) 𝓜 𝓡 code.env #turns·steps·seat-of seat-of-def.routine code.calls-turns·steps·seat-of (seat-of-thm.met 𝓤 H 𝓜 𝓖 𝓡);
-      rule = cited 𝓤 H (Rule 𝓤 H (𝓖 .A) (𝓜 .mem) (𝓡 .run)) 𝓜 𝓡 code.env #rulings·judging·rule rule-def.routine code.calls-rulings·judging·rule (rule-thm.met 𝓤 H 𝓜 𝓖 𝓡);
-      unsound-ruling = cited 𝓤 H (UnsoundRuling 𝓤 H (𝓖 .A) (𝓜 .mem) (𝓡 .run)) 𝓜 𝓡 code.env #turns·steps·unsound-ruling unsound-ruling-def.routine code.calls-turns·steps·unsound-ruling (unsound-ruling-thm.met 𝓤 H 𝓜 𝓖 𝓡);
+      is-sound-in = cited 𝓤 H (IsSoundIn 𝓤 H (𝓖 .A) (𝓜 .mem) (𝓡 .run)) 𝓜 𝓡 code.env #lent-rows·sound·is-sound-in is-sound-in-def.routine code.calls-lent-records·sound·is-sound-in (is-sound-in-thm.met 𝓤 H 𝓜 𝓖 𝓡);
+      seat-of = cited 𝓤 H (SeatOf 𝓤 H (𝓖 .A) (𝓜 .mem) (𝓡 .run)) 𝓜 𝓡 code.env #turns·steps·seat-of seat-of-def.routine code.calls-lent-answers·steps·seat-of (seat-of-thm.met 𝓤 H 𝓜 𝓖 𝓡);
+      rule = cited 𝓤 H (Rule 𝓤 H (𝓖 .A) (𝓜 .mem) (𝓡 .run)) 𝓜 𝓡 code.env #rulings·judging·rule rule-def.routine code.calls-apply-ruling·judging·rule (rule-thm.met 𝓤 H 𝓜 𝓖 𝓡);
+      unsound-ruling = cited 𝓤 H (UnsoundRuling 𝓤 H (𝓖 .A) (𝓜 .mem) (𝓡 .run)) 𝓜 𝓡 code.env #turns·steps·unsound-ruling unsound-ruling-def.routine code.calls-lent-answers·steps·unsound-ruling (unsound-ruling-thm.met 𝓤 H 𝓜 𝓖 𝓡);
     }
     ))

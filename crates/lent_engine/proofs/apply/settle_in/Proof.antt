@@ -249,9 +249,9 @@ settle-in-spec 𝓤 H 𝓜 𝓖 𝓡 =
     (tables 𝓤 H 𝓜 𝓡 code.env .C) (tables 𝓤 H 𝓜 𝓡 code.env .Λ) #in-place·apply·settle-in code.function (code.unfolded 𝓤 H 𝓜 𝓡)
     (settle-in-meets 𝓤 H (𝓖 .A) (givenOf 𝓤 H 𝓜 𝓖) (𝓜 .mem) (𝓡 .run) (tablesOf 𝓤 H 𝓜 (tables 𝓤 H 𝓜 𝓡 code.env))
     (record {
-      seat-of = cited 𝓤 H (SeatOf 𝓤 H (𝓖 .A) (𝓜 .mem) (𝓡 .run)) 𝓜 𝓡 code.env #turns·steps·seat-of seat-of-def.routine code.calls-turns·steps·seat-of (seat-of-thm.met 𝓤 H 𝓜 𝓖 𝓡);
-      expire-all-in = cited 𝓤 H (ExpireAllIn 𝓤 H (𝓖 .A) (𝓜 .mem) (𝓡 .run)) 𝓜 𝓡 code.env #lent-rows·expiry·expire-all-in expire-all-in-def.routine code.calls-lent-rows·expiry·expire-all-in (expire-all-in-thm.met 𝓤 H 𝓜 𝓖 𝓡);
-      choose-in = cited 𝓤 H (ChooseIn 𝓤 H (𝓖 .A) (𝓜 .mem) (𝓡 .run)) 𝓜 𝓡 code.env #lent-rows·choice·choose-in choose-in-def.routine code.calls-lent-rows·choice·choose-in (choose-in-thm.met 𝓤 H 𝓜 𝓖 𝓡);
-      told-of = cited 𝓤 H (ToldOf 𝓤 H (𝓖 .A) (𝓜 .mem) (𝓡 .run)) 𝓜 𝓡 code.env #turns·steps·told-of told-of-def.routine code.calls-turns·steps·told-of (told-of-thm.met 𝓤 H 𝓜 𝓖 𝓡);
+      seat-of = cited 𝓤 H (SeatOf 𝓤 H (𝓖 .A) (𝓜 .mem) (𝓡 .run)) 𝓜 𝓡 code.env #turns·steps·seat-of seat-of-def.routine code.calls-lent-answers·steps·seat-of (seat-of-thm.met 𝓤 H 𝓜 𝓖 𝓡);
+      expire-all-in = cited 𝓤 H (ExpireAllIn 𝓤 H (𝓖 .A) (𝓜 .mem) (𝓡 .run)) 𝓜 𝓡 code.env #lent-rows·expiry·expire-all-in expire-all-in-def.routine code.calls-lent-records·expiry·expire-all-in (expire-all-in-thm.met 𝓤 H 𝓜 𝓖 𝓡);
+      choose-in = cited 𝓤 H (ChooseIn 𝓤 H (𝓖 .A) (𝓜 .mem) (𝓡 .run)) 𝓜 𝓡 code.env #lent-rows·choice·choose-in choose-in-def.routine code.calls-lent-records·choice·choose-in (choose-in-thm.met 𝓤 H 𝓜 𝓖 𝓡);
+      told-of = cited 𝓤 H (ToldOf 𝓤 H (𝓖 .A) (𝓜 .mem) (𝓡 .run)) 𝓜 𝓡 code.env #turns·steps·told-of told-of-def.routine code.calls-lent-answers·steps·told-of (told-of-thm.met 𝓤 H 𝓜 𝓖 𝓡);
     }
     ))

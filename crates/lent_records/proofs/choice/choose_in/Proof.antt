@@ -233,5 +233,5 @@ choose-in-spec 𝓤 H 𝓜 𝓖 𝓡 =
     entered 𝓤 H (tripleOf 𝓤 H (𝓖 .A) choose-in.signature (choose-in.spec 𝓤 H (𝓖 .A) (𝓜 .mem) (𝓡 .run)))
     (tables 𝓤 H 𝓜 𝓡 code.env .C) (tables 𝓤 H 𝓜 𝓡 code.env .Λ) #lent-rows·choice·choose-in code.function (code.unfolded 𝓤 H 𝓜 𝓡)
     (choose-in-meets 𝓤 H (𝓖 .A) (givenOf 𝓤 H 𝓜 𝓖) (𝓜 .mem) (𝓡 .run) (tablesOf 𝓤 H 𝓜 (tables 𝓤 H 𝓜 𝓡 code.env))
-    (cited 𝓤 H (NoBest 𝓤 H (𝓖 .A) (𝓜 .mem) (𝓡 .run)) 𝓜 𝓡 code.env #lent-rows·choice·no-best no-best-def.routine code.calls-lent-rows·choice·no-best (no-best-thm.met 𝓤 H 𝓜 𝓖 𝓡))
-    (cited 𝓤 H (BetterOf 𝓤 H (𝓖 .A) (𝓜 .mem) (𝓡 .run)) 𝓜 𝓡 code.env #choices·better-of better-of-def.routine code.calls-choices·better-of (better-of-thm.met 𝓤 H 𝓜 𝓖 𝓡)))
+    (cited 𝓤 H (NoBest 𝓤 H (𝓖 .A) (𝓜 .mem) (𝓡 .run)) 𝓜 𝓡 code.env #lent-rows·choice·no-best no-best-def.routine code.calls-lent-records·choice·no-best (no-best-thm.met 𝓤 H 𝓜 𝓖 𝓡))
+    (cited 𝓤 H (BetterOf 𝓤 H (𝓖 .A) (𝓜 .mem) (𝓡 .run)) 𝓜 𝓡 code.env #choices·better-of better-of-def.routine code.calls-state-choice·better-of (better-of-thm.met 𝓤 H 𝓜 𝓖 𝓡)))

@@ -120,4 +120,4 @@ close-in-spec 𝓤 H 𝓜 𝓖 𝓡 =
     entered 𝓤 H (tripleOf 𝓤 H (𝓖 .A) close-in.signature (close-in.spec 𝓤 H (𝓖 .A) (𝓜 .mem) (𝓡 .run)))
     (tables 𝓤 H 𝓜 𝓡 code.env .C) (tables 𝓤 H 𝓜 𝓡 code.env .Λ) #lent·closing·close-in code.function (code.unfolded 𝓤 H 𝓜 𝓡)
     (close-in-meets 𝓤 H (𝓖 .A) (givenOf 𝓤 H 𝓜 𝓖) (𝓜 .mem) (𝓡 .run) (tablesOf 𝓤 H 𝓜 (tables 𝓤 H 𝓜 𝓡 code.env))
-    (cited 𝓤 H (Close 𝓤 H (𝓖 .A) (𝓜 .mem) (𝓡 .run)) 𝓜 𝓡 code.env #records·closing·close close-def.routine code.calls-records·closing·close (close-thm.met 𝓤 H 𝓜 𝓖 𝓡)))
+    (cited 𝓤 H (Close 𝓤 H (𝓖 .A) (𝓜 .mem) (𝓡 .run)) 𝓜 𝓡 code.env #records·closing·close close-def.routine code.calls-task-records·closing·close (close-thm.met 𝓤 H 𝓜 𝓖 𝓡)))

@@ -185,7 +185,7 @@ expire-in-spec 𝓤 H 𝓜 𝓖 𝓡 =
     (tables 𝓤 H 𝓜 𝓡 code.env .C) (tables 𝓤 H 𝓜 𝓡 code.env .Λ) #lent·closing·expire-in code.function (code.unfolded 𝓤 H 𝓜 𝓡)
     (expire-in-meets 𝓤 H (𝓖 .A) (givenOf 𝓤 H 𝓜 𝓖) (𝓜 .mem) (𝓡 .run) (tablesOf 𝓤 H 𝓜 (tables 𝓤 H 𝓜 𝓡 code.env))
     (record {
-      is-late = cited 𝓤 H (IsLate 𝓤 H (𝓖 .A) (𝓜 .mem) (𝓡 .run)) 𝓜 𝓡 code.env #jobs·opening·is-late is-late-def.routine code.calls-jobs·opening·is-late (is-late-thm.met 𝓤 H 𝓜 𝓖 𝓡);
-      close-in = cited 𝓤 H (CloseIn 𝓤 H (𝓖 .A) (𝓜 .mem) (𝓡 .run)) 𝓜 𝓡 code.env #lent·closing·close-in close-in-def.routine code.calls-lent·closing·close-in (close-in-thm.met 𝓤 H 𝓜 𝓖 𝓡);
+      is-late = cited 𝓤 H (IsLate 𝓤 H (𝓖 .A) (𝓜 .mem) (𝓡 .run)) 𝓜 𝓡 code.env #jobs·opening·is-late is-late-def.routine code.calls-task-steps·opening·is-late (is-late-thm.met 𝓤 H 𝓜 𝓖 𝓡);
+      close-in = cited 𝓤 H (CloseIn 𝓤 H (𝓖 .A) (𝓜 .mem) (𝓡 .run)) 𝓜 𝓡 code.env #lent·closing·close-in close-in-def.routine code.calls-lent-records·closing·close-in (close-in-thm.met 𝓤 H 𝓜 𝓖 𝓡);
     }
     ))

@@ -267,5 +267,5 @@ is-sound-in-spec 𝓤 H 𝓜 𝓖 𝓡 =
     entered 𝓤 H (tripleOf 𝓤 H (𝓖 .A) is-sound-in.signature (is-sound-in.spec 𝓤 H (𝓖 .A) (𝓜 .mem) (𝓡 .run)))
     (tables 𝓤 H 𝓜 𝓡 code.env .C) (tables 𝓤 H 𝓜 𝓡 code.env .Λ) #lent-rows·sound·is-sound-in code.function (code.unfolded 𝓤 H 𝓜 𝓡)
     (is-sound-in-meets 𝓤 H (𝓖 .A) (givenOf 𝓤 H 𝓜 𝓖) (𝓜 .mem) (𝓡 .run) (tablesOf 𝓤 H 𝓜 (tables 𝓤 H 𝓜 𝓡 code.env))
-    (cited 𝓤 H (Admits 𝓤 H (𝓖 .A) (𝓜 .mem) (𝓡 .run)) 𝓜 𝓡 code.env #lent-rows·steps·admits admits-def.routine code.calls-lent-rows·steps·admits (admits-thm.met 𝓤 H 𝓜 𝓖 𝓡))
-    (cited 𝓤 H (SoundOn 𝓤 H (𝓖 .A) (𝓜 .mem) (𝓡 .run)) 𝓜 𝓡 code.env #lent-rows·steps·sound-on sound-on-def.routine code.calls-lent-rows·steps·sound-on (sound-on-thm.met 𝓤 H 𝓜 𝓖 𝓡)))
+    (cited 𝓤 H (Admits 𝓤 H (𝓖 .A) (𝓜 .mem) (𝓡 .run)) 𝓜 𝓡 code.env #lent-rows·steps·admits admits-def.routine code.calls-lent-records·steps·admits (admits-thm.met 𝓤 H 𝓜 𝓖 𝓡))
+    (cited 𝓤 H (SoundOn 𝓤 H (𝓖 .A) (𝓜 .mem) (𝓡 .run)) 𝓜 𝓡 code.env #lent-rows·steps·sound-on sound-on-def.routine code.calls-lent-records·steps·sound-on (sound-on-thm.met 𝓤 H 𝓜 𝓖 𝓡)))
