@@ -19,15 +19,10 @@ use Rattle.state_rules.specs.declared.State.{State}
 use Rattle.state_rules.specs.Sound.{StateSound}
 use Rattle.state_rules.proofs.Sounding.{state-tells}
 use Rattle.apply_events.specs.declared.Applied.{Applied}
-use Rattle.apply_events.specs.Apply.{acted, applied}
+use Rattle.apply_events.specs.Apply.{applied}
 use Rattle.apply_events.specs.Log.{standing, ranOver, stateAfter, endedWith, ran}
 use Rattle.apply_events.proofs.Frame.{count-stays}
 use Rattle.apply_events.proofs.Kept.{applied-sound}
-
--- on a sound state applying is acting
-pub sound-acts : (s : State) (e : Event) → StateSound s → acted s e ≡ applied s e
-unfolding applied
-sound-acts s e p = rw (tells-true (state-tells s) p)
 
 -- the state after some events is that of the run over them, whatever was answered before
 pub ran-by : (a : Applied) (es : List Event) → stateAfter (a .state) es ≡ ranOver a es .state

@@ -27,7 +27,9 @@ use Rattle.state_choice.specs.Choice.{bestTo}
 use Rattle.bound_search.specs.Fits.{firstFit}
 use Rattle.bound_demand.specs.Demand.{demand}
 use Rattle.bound_all.specs.Asked.{boundCell, allAnswer}
-use Rattle.apply_events.specs.Apply.{ticked, releasedAt, completedAt, byKind, timed, acted, applied}
+use Rattle.apply_ruling.specs.Ruling.{barOf, ruled}
+use Rattle.task_steps.specs.Own.{ownFault, ownAfter}
+use Rattle.apply_events.specs.Apply.{applied}
 use Rattle.run_histories.specs.History.{Job, runState, runRecord, jobsOf}
 use Rattle.guarantee.specs.ChosenTime.{standsAt, chosenTime}
 use Rattle.guarantee.specs.Premise.{Premise}
@@ -69,11 +71,11 @@ pub seven-in-order : onto (releases 0 0 ∷ releases 1 0 ∷ finishes 0 1 2 ∷ 
 seven-in-order = refl
 
 pub seven-obey : Premise (freshState listed) seven
-unfolding obeysAt shortTo chosenTime standsAt runState total filled applied acted timed byKind ticked releasedAt completedAt stateHolds eachHolds soundHolds taskFault closed expired opened bestTo zeroes faultOf ones onesIn
+unfolding obeysAt shortTo chosenTime standsAt runState total filled applied ruled barOf ownFault ownAfter stateHolds eachHolds soundHolds taskFault closed expired opened bestTo zeroes faultOf ones onesIn
 seven-obey = premise-by (freshState listed) seven refl
 
 pub seven-jobs : (jobsOf (freshState listed) seven 0 ≡ jobOf 1 0 0 2 true ∷ []) × (jobsOf (freshState listed) seven 1 ≡ jobOf 1 0 0 5 true ∷ [])
-unfolding jobsOf runState filled applied acted timed byKind ticked releasedAt completedAt stateHolds eachHolds soundHolds taskFault closed expired opened bestTo zeroes faultOf ones onesIn
+unfolding jobsOf runState filled applied ruled barOf ownFault ownAfter stateHolds eachHolds soundHolds taskFault closed expired opened bestTo zeroes faultOf ones onesIn
 seven-jobs = (refl, refl)
 
 pub seven-kept : Promise listed (freshState listed) seven 0 × Promise listed (freshState listed) seven 1
@@ -81,7 +83,7 @@ seven-kept = (guarantee listed 16 (listed-bounds .0) seven seven-obey 0 (lit< tt
 
 -- the eighth, the tick at 9, does not obey it: job 2 of task 0 is open and has had its 2 ticks at 7
 pub eighth-late : Premise (freshState listed) (ticks 9 ∷ seven) → ⊥
-unfolding Premise chosenTime standsAt runState total filled applied acted timed byKind ticked releasedAt completedAt stateHolds eachHolds soundHolds taskFault closed expired opened bestTo zeroes faultOf ones onesIn
+unfolding Premise chosenTime standsAt runState total filled applied ruled barOf ownFault ownAfter stateHolds eachHolds soundHolds taskFault closed expired opened bestTo zeroes faultOf ones onesIn
 eighth-late p = omega (arith, p .1 refl 0 7 (lit< tt) refl (omega arith) .not-after)
 
 -- a task of (2,3) beside a hard one: it misses two jobs in a row in class 1, both times while the hard task has the processor
@@ -107,14 +109,14 @@ twice =
     ∷ []
 
 pub twice-obey : Premise (freshState shared) twice
-unfolding obeysAt shortTo chosenTime standsAt runState total filled applied acted timed byKind ticked releasedAt completedAt stateHolds eachHolds soundHolds taskFault closed expired opened bestTo zeroes faultOf ones onesIn
+unfolding obeysAt shortTo chosenTime standsAt runState total filled applied ruled barOf ownFault ownAfter stateHolds eachHolds soundHolds taskFault closed expired opened bestTo zeroes faultOf ones onesIn
 twice-obey = premise-by (freshState shared) twice refl
 
 pub twice-jobs : jobsOf (freshState shared) twice 0 ≡ jobOf 4 20 0 21 true ∷ jobOf 3 12 1 15 false ∷ jobOf 2 4 1 7 false ∷ jobOf 1 0 0 1 true ∷ []
-unfolding jobsOf runState filled applied acted timed byKind ticked releasedAt completedAt stateHolds eachHolds soundHolds taskFault closed expired opened bestTo zeroes faultOf ones onesIn
+unfolding jobsOf runState filled applied ruled barOf ownFault ownAfter stateHolds eachHolds soundHolds taskFault closed expired opened bestTo zeroes faultOf ones onesIn
 twice-jobs = refl
 
 -- the window holds m misses, and is kept
 pub twice-window : (windowOf (runRecord (freshState shared) twice 0) ≡ 2) × Promise shared (freshState shared) twice 0
-unfolding runState filled applied acted timed byKind ticked releasedAt completedAt stateHolds eachHolds soundHolds taskFault closed expired opened bestTo zeroes faultOf ones onesIn
+unfolding runState filled applied ruled barOf ownFault ownAfter stateHolds eachHolds soundHolds taskFault closed expired opened bestTo zeroes faultOf ones onesIn
 twice-window = (refl, guarantee shared 16 (shared-bounds .0) twice twice-obey 0 (lit< tt))

@@ -32,7 +32,9 @@ use Rattle.bound_demand.specs.Demand.{demand}
 use Rattle.bound_one.specs.declared.Bound.the-variants as Bound
 use Rattle.bound_all.specs.Asked.{allAnswer}
 use Rattle.bound_one.specs.Asked.{oneAnswer}
-use Rattle.apply_events.specs.Apply.{ticked, releasedAt, completedAt, byKind, timed, acted, applied}
+use Rattle.apply_ruling.specs.Ruling.{barOf, ruled}
+use Rattle.task_steps.specs.Own.{ownFault, ownAfter}
+use Rattle.apply_events.specs.Apply.{applied}
 use Rattle.run_histories.specs.History.{Job, runState, runRecord, jobsOf}
 use Rattle.guarantee.specs.ChosenTime.{standsAt, chosenTime}
 use Rattle.guarantee.specs.Premise.{Premise}
@@ -61,11 +63,11 @@ unfolding allAnswer judged firstFault taskFault firstFit demand total
 alone-accepted = refl
 
 late-obeys : Obeys OnlyReleases (freshState alone) late
-unfolding obeysAt shortTo chosenTime standsAt runState total filled applied acted timed byKind ticked releasedAt completedAt stateHolds eachHolds soundHolds taskFault closed expired opened bestTo zeroes faultOf ones onesIn
+unfolding obeysAt shortTo chosenTime standsAt runState total filled applied ruled barOf ownFault ownAfter stateHolds eachHolds soundHolds taskFault closed expired opened bestTo zeroes faultOf ones onesIn
 late-obeys = obeys-by OnlyReleases (λ e. cond (eqb (e .kind) 1) (e .time) 0) (λ e x h k. rw (eq-eqb _ _ k) at h) (freshState alone) late refl
 
 late-jobs : jobsOf (freshState alone) late 0 ≡ jobOf 1 0 0 2 false ∷ []
-unfolding jobsOf runState filled applied acted timed byKind ticked releasedAt completedAt stateHolds eachHolds soundHolds taskFault closed expired opened bestTo zeroes faultOf ones onesIn
+unfolding jobsOf runState filled applied ruled barOf ownFault ownAfter stateHolds eachHolds soundHolds taskFault closed expired opened bestTo zeroes faultOf ones onesIn
 late-jobs = refl
 
 pub without-after : (allAnswer alone 16 ≡ Answer.Accepted) × Obeys OnlyReleases (freshState alone) late × (Promise alone (freshState alone) late 0 → ⊥)
@@ -73,7 +75,7 @@ without-after = (alone-accepted, late-obeys, not-kept alone (freshState alone) l
 
 -- the tick itself closes the job: a premise on the jobs that are open after an event, and not as it arrives, would let this run through
 pub open-as-it-arrives : runRecord (freshState alone) late 0 .live ≡ false
-unfolding runState filled applied acted timed byKind ticked releasedAt completedAt stateHolds eachHolds soundHolds taskFault closed expired opened bestTo zeroes faultOf ones onesIn
+unfolding runState filled applied ruled barOf ownFault ownAfter stateHolds eachHolds soundHolds taskFault closed expired opened bestTo zeroes faultOf ones onesIn
 open-as-it-arrives = refl
 
 -- ---- releases at x: one hard task of C, D and T 2, whose job has had its ticks at 2, and its next release at 2
@@ -92,11 +94,11 @@ unfolding allAnswer judged firstFault taskFault firstFit demand total
 tight-accepted = refl
 
 again-obeys : Obeys OnlyAfter (freshState tight) again
-unfolding obeysAt shortTo chosenTime standsAt runState total filled applied acted timed byKind ticked releasedAt completedAt stateHolds eachHolds soundHolds taskFault closed expired opened bestTo zeroes faultOf ones onesIn
+unfolding obeysAt shortTo chosenTime standsAt runState total filled applied ruled barOf ownFault ownAfter stateHolds eachHolds soundHolds taskFault closed expired opened bestTo zeroes faultOf ones onesIn
 again-obeys = obeys-by OnlyAfter (λ e. e .time - 1) (λ e x h. omega arith) (freshState tight) again refl
 
 again-jobs : jobsOf (freshState tight) again 0 ≡ jobOf 1 0 0 2 false ∷ []
-unfolding jobsOf runState filled applied acted timed byKind ticked releasedAt completedAt stateHolds eachHolds soundHolds taskFault closed expired opened bestTo zeroes faultOf ones onesIn
+unfolding jobsOf runState filled applied ruled barOf ownFault ownAfter stateHolds eachHolds soundHolds taskFault closed expired opened bestTo zeroes faultOf ones onesIn
 again-jobs = refl
 
 pub without-releases : (allAnswer tight 16 ≡ Answer.Accepted) × Obeys OnlyAfter (freshState tight) again × (Promise tight (freshState tight) again 0 → ⊥)
@@ -115,11 +117,11 @@ unfolding allAnswer oneAnswer judged firstFault taskFault firstFit demand total
 crowded-bounds = (refl, refl)
 
 starved-obeys : Premise (freshState crowded) starved
-unfolding obeysAt shortTo chosenTime standsAt runState total filled applied acted timed byKind ticked releasedAt completedAt stateHolds eachHolds soundHolds taskFault closed expired opened bestTo zeroes faultOf ones onesIn
+unfolding obeysAt shortTo chosenTime standsAt runState total filled applied ruled barOf ownFault ownAfter stateHolds eachHolds soundHolds taskFault closed expired opened bestTo zeroes faultOf ones onesIn
 starved-obeys = premise-by (freshState crowded) starved refl
 
 starved-jobs : jobsOf (freshState crowded) starved 2 ≡ jobOf 1 0 0 3 false ∷ []
-unfolding jobsOf runState filled applied acted timed byKind ticked releasedAt completedAt stateHolds eachHolds soundHolds taskFault closed expired opened bestTo zeroes faultOf ones onesIn
+unfolding jobsOf runState filled applied ruled barOf ownFault ownAfter stateHolds eachHolds soundHolds taskFault closed expired opened bestTo zeroes faultOf ones onesIn
 starved-jobs = refl
 
 pub without-bounds : (oneAnswer crowded 2 ≡ Bound.At 3) × Premise (freshState crowded) starved × (Promise crowded (freshState crowded) starved 2 → ⊥)
@@ -162,11 +164,11 @@ unfolding stateHolds eachHolds soundHolds taskFault
 stale-sound = refl
 
 second-obeys : Premise stale second
-unfolding obeysAt shortTo chosenTime standsAt runState total filled applied acted timed byKind ticked releasedAt completedAt stateHolds eachHolds soundHolds taskFault closed expired opened bestTo zeroes faultOf ones onesIn
+unfolding obeysAt shortTo chosenTime standsAt runState total filled applied ruled barOf ownFault ownAfter stateHolds eachHolds soundHolds taskFault closed expired opened bestTo zeroes faultOf ones onesIn
 second-obeys = premise-by stale second refl
 
 second-window : windowOf (runRecord stale second 0) ≡ 2
-unfolding runState filled applied acted timed byKind ticked releasedAt completedAt stateHolds eachHolds soundHolds taskFault closed expired opened bestTo zeroes faultOf ones onesIn
+unfolding runState filled applied ruled barOf ownFault ownAfter stateHolds eachHolds soundHolds taskFault closed expired opened bestTo zeroes faultOf ones onesIn
 second-window = refl
 
 pub without-fresh : (allAnswer pair 16 ≡ Answer.Accepted) × (stateHolds stale ≡ true) × Premise stale second × (Promise pair stale second 0 → ⊥)

@@ -24,7 +24,9 @@ use Rattle.task_soundness.specs.Sound.{soundHolds}
 use Rattle.state_rules.specs.State.{freshState}
 use Rattle.state_rules.specs.Sound.{eachHolds, stateHolds}
 use Rattle.state_choice.specs.Choice.{bestTo}
-use Rattle.apply_events.specs.Apply.{ticked, releasedAt, completedAt, byKind, timed, acted, applied}
+use Rattle.apply_ruling.specs.Ruling.{barOf, ruled}
+use Rattle.task_steps.specs.Own.{ownFault, ownAfter}
+use Rattle.apply_events.specs.Apply.{applied}
 use Rattle.apply_events.specs.Log.{ranOver, ran}
 use Rattle.bound_search.specs.Fits.{firstFit}
 use Rattle.bound_demand.specs.Demand.{demand}
@@ -106,5 +108,5 @@ bytes-obey-by-answers = answers-of-logs tableBytes logBytes bytes-read (omega ar
 -- ---- the C function's answers for the first 0 to 7 records: none, 0, 0, 1, refused 11, 1, 0, refused 12
 
 pub bytes-codes : map (codeAfter tableBytes logBytes) (0 ∷ 1 ∷ 2 ∷ 3 ∷ 4 ∷ 5 ∷ 6 ∷ 7 ∷ []) ≡ 16 ∷ 0 ∷ 0 ∷ 1 ∷ 43 ∷ 1 ∷ 0 ∷ 44 ∷ []
-unfolding codeOf caseOf logCase ran ranOver readTable readAnswer recordFault number taskFault firstFault judged filled readRecord marks readableIn readable eventsIn faultOf zeroes applied acted timed byKind ticked releasedAt completedAt closed expired opened bestTo soundHolds eachHolds stateHolds ones onesIn
+unfolding codeOf caseOf logCase ran ranOver readTable readAnswer recordFault number taskFault firstFault judged filled readRecord marks readableIn readable eventsIn faultOf zeroes applied ruled barOf ownFault ownAfter closed expired opened bestTo soundHolds eachHolds stateHolds ones onesIn
 bytes-codes = refl

@@ -22,7 +22,9 @@ use Rattle.task_steps.specs.Opening.{expired, opened}
 use Rattle.task_soundness.specs.Sound.{soundHolds}
 use Rattle.state_rules.specs.Sound.{eachHolds, stateHolds}
 use Rattle.state_choice.specs.Choice.{bestTo}
-use Rattle.apply_events.specs.Apply.{ticked, releasedAt, completedAt, byKind, timed, acted, applied}
+use Rattle.apply_ruling.specs.Ruling.{barOf, ruled}
+use Rattle.task_steps.specs.Own.{ownFault, ownAfter}
+use Rattle.apply_events.specs.Apply.{applied}
 use Rattle.listing_text.specs.TableLines.{taskLines, lastLines}
 use Rattle.apply_events.specs.Log.{stateAfter}
 use Rattle.listing_text.specs.LogLines.{eventLines, stopText}
@@ -127,5 +129,5 @@ abbrev pub text : List ℕ
 text = line1 ++ line2 ++ line3 ++ line4 ++ line5 ++ line6 ++ line7 ++ line8 ++ line9 ++ line10 ++ line11 ++ line12
 
 pub document : listingOf input ≡ text
-unfolding listingOf listed tableListing taskLines eventLines stateAfter stopText lastLines readTable readAnswer recordFault number taskFault firstFault judged filled oneAnswer firstFit demand total readRecord marks readableIn readable eventsIn faultOf zeroes applied acted timed byKind ticked releasedAt completedAt closed expired opened bestTo soundHolds eachHolds stateHolds ones onesIn digitsIn decimal
+unfolding listingOf listed tableListing taskLines eventLines stateAfter stopText lastLines readTable readAnswer recordFault number taskFault firstFault judged filled oneAnswer firstFit demand total readRecord marks readableIn readable eventsIn faultOf zeroes applied ruled barOf ownFault ownAfter closed expired opened bestTo soundHolds eachHolds stateHolds ones onesIn digitsIn decimal
 document = refl
