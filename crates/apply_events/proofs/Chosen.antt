@@ -27,7 +27,7 @@ use Rattle.apply_events.specs.Answers.{answerSaid, refusalOf}
 use Rattle.apply_events.specs.Apply.{toldOf, answerOf, applied}
 use Rattle.apply_events.specs.Choice.{Chooses, runs, idles}
 use Rattle.apply_events.proofs.Kept.{applied-sound}
-use Rattle.apply_events.proofs.Left.{accepts-by, heard-by, answers-so}
+use Rattle.apply_events.proofs.Happened.{accepted-heard, answers-so}
 
 -- ---- the answer that a sound state stands for
 
@@ -68,7 +68,7 @@ sizes x = length (x .values)
 module _ (s : State) (e : Event) where
   pub choice-exactly : refusalOf (applied s e .answer) ≡ 0 → (a : Said ℕ) → (answerSaid (applied s e .answer) ≡ a) ↔ Chooses (applied s e .state) a
   choice-exactly o a =
-      rw (answers-so s e o) (answer-exactly (applied s e .state) (applied-sound s (heard-by s e (accepts-by s e o) .sound) e) a)
+      rw (answers-so s e o) (answer-exactly (applied s e .state) (applied-sound s (accepted-heard s e o .0 .sound) e) a)
 
   -- `Run p c` exactly when the job at p is the least open one and c is its class; `Idle` exactly when nothing is open
   module _ (o : refusalOf (applied s e .answer) ≡ 0) where

@@ -1,108 +1,90 @@
--- Each refusal of an event is given exactly when the rules say, and an event is accepted exactly when none is: the tests decide the
--- rows of the table in their order.
-use Prim.Native.Nat.{ℕ}
-use mathlib.Core.Path.{_≡_, refl, sym}
+-- Each refusal of an event is given exactly when the rules say, and an event is accepted exactly when none is: what happened is a row of
+-- the table, and a row's number is the one that the ruling computes.
+use Prim.Native.Nat.{ℕ, _<_}
+use mathlib.Core.Path.{_≡_, refl, sym, ap, _∙_}
 use mathlib.Core.Bool.{Bool, true, false, cond}
-use mathlib.Core.Logic.{inl, inr, _↔_}
+use mathlib.Core.Logic.{_↔_}
 use native.Mathlib.Omega.{arith}
-use borrow.Author.Tests.{eq-eqb, ne-eqb, eqb-true, eqb-false, lt-ltb, le-ltb, ltb-true, ltb-false, le-leb, lt-leb, leb-true, leb-false}
-use lib.Dec.{eqb, leb, ltb}
+use borrow.Author.Tests.{eqb-true}
+use lib.Dec.{eqb}
 use lib.ListN.{set}
 use Rattle.laws.proofs.Answers.{exactly}
-use Rattle.laws.proofs.Tests.{by-test, tells-true, tells-false}
 use Rattle.event_reading.specs.declared.Event.{Event}
-use Rattle.event_reading.specs.Event.{faultOf}
-use Rattle.task_records.specs.Closing.{closed}
+use Rattle.event_reading.specs.Event.{aTick, aRelease, aCompletion}
+use Rattle.event_reading.proofs.Rules.{judge-0}
+use Rattle.task_records.specs.declared.Record.{Record}
+use Rattle.task_steps.specs.Own.{ownFault, ownAfter}
+use Rattle.task_steps.proofs.OwnSteps as O
 use Rattle.state_rules.specs.declared.State.{State}
-use Rattle.state_rules.specs.Sound.{limit, stateHolds}
-use Rattle.state_rules.specs.Choice.{chosen}
-use Rattle.state_rules.proofs.Sounding.{state-tells}
-use Rattle.apply_events.specs.declared.Answer.{Answer}
+use Rattle.state_rules.specs.State.{recordAt}
+use Rattle.state_rules.specs.Sound.{StateSound}
+use Rattle.apply_ruling.specs.Ruling.{barOf, taken, kept}
+use Rattle.apply_ruling.proofs.Bars as B
 use Rattle.apply_events.specs.declared.Applied.{Applied}
 use Rattle.apply_events.specs.Answers.{refusalOf}
-use Rattle.task_steps.specs.Own.{tooSoon, reopened, isOpen}
 use Rattle.apply_events.specs.Steps.{expiredAll}
-use Rattle.apply_events.specs.Apply.{answerOf, moved, refused, ticked, releasedAt, completedAt, byKind, timed, acted, applied}
+use Rattle.apply_events.specs.Apply.{moved, carriedOut, applied}
 use Rattle.apply_events.specs.Verdict.{afterOne, Heard, Verdict, unsound, unruled, untimely, no-task, too-soon, no-job, ticks, releases, completes}
-
--- an accepted event's answer is no refusal
-accepts : (s : State) → refusalOf (answerOf s) ≡ 0
-accepts s = by-test (λ (a : Answer). refusalOf a ≡ 0) (chosen s .found) _ _ (λ f. refl) (λ f. refl)
+use Rattle.apply_events.proofs.Happened.{accepts, Happened, refusal, acceptance, unsound-is, barred-is, own-is, happened}
 
 module _ (s : State) (e : Event) where
-  Given : Applied → Type 0
-  Given a = Verdict s e (refusalOf (a .answer))
-
-  by-kind : Heard s e → Verdict s e (refusalOf (byKind s e .answer))
-  unfolding byKind ticked releasedAt completedAt Given
-  by-kind h =
-      by-test Given (eqb (e .kind) 0) _ _ (λ q. rw accepts (ticks h (eqb-true _ _ q)))
-      (λ q.
-      let k = eqb-false (e .kind) 0 q in
-      by-test Given (eqb (e .kind) 1) _ _
-      (λ r.
-      by-test Given (leb (s .count) (e .task)) _ _ (λ c. no-task h k (leb-true _ _ c))
-      (λ c.
-      by-test Given (tooSoon (afterOne s e) (e .time)) _ _ (λ f. too-soon h (eqb-true _ _ r) (leb-false _ _ c) f)
-      (λ f. rw accepts (releases h (eqb-true _ _ r) (leb-false _ _ c) f))))
-      (λ r.
-      by-test Given (leb (s .count) (e .task)) _ _ (λ c. no-task h k (leb-true _ _ c))
-      (λ c.
-      by-test Given (isOpen (afterOne s e) (e .job)) _ _
-      (λ f. rw accepts (completes h k (eqb-false (e .kind) 1 r) (leb-false _ _ c) f))
-      (λ f. no-job h k (eqb-false (e .kind) 1 r) (leb-false _ _ c) f))))
-
   pub verdict-is : Verdict s e (refusalOf (applied s e .answer))
-  unfolding applied acted timed Given
-  verdict-is =
-      by-test Given (stateHolds s) _ _
-      (λ q.
-      let p = state-tells s .holds q in
-      by-test Given (eqb (faultOf e) 0) _ _
-      (λ f.
-      let z = eqb-true (faultOf e) 0 f in
-      by-test Given (ltb limit (e .time)) _ _ (λ a. untimely p z (inl (ltb-true limit (e .time) a)))
-      (λ a.
-      by-test Given (ltb (e .time) (s .clock)) _ _ (λ b. untimely p z (inr (ltb-true (e .time) (s .clock) b)))
-      (λ b. by-kind (record { sound = p; ruled = z; limited = ltb-false limit (e .time) a; onward = ltb-false (e .time) (s .clock) b }))))
-      (λ f. unruled p (eqb-false (faultOf e) 0 f)))
-      (λ q. unsound (state-tells s .fails q))
+  verdict-is = go (happened s e)
+    where
+      go : {a : Applied} → Happened s e a → Verdict s e (refusalOf (a .answer))
+      go (refusal n z v) = v
+      go {a} (acceptance h c (O.tick k)) = rw (accepts (a .state)) (ticks h k)
+      go {a} (acceptance h c (O.release k f)) = rw (accepts (a .state)) (releases h k c (O.in-turn (afterOne s e) e f))
+      go {a} (acceptance h c (O.completion k f)) =
+          rw (accepts (a .state)) (completes h (λ z. omega arith) (λ z. omega arith) c (O.job-open (afterOne s e) e f))
 
-  -- past the tests that are common to all kinds
-  pub heard : Heard s e → applied s e ≡ byKind s e
-  unfolding applied acted timed
-  heard h =
-      rw (
-        tells-true (state-tells s) (h .sound),
-        eq-eqb _ _ (h .ruled),
-        le-ltb limit (e .time) (h .limited),
-        le-ltb (e .time) (s .clock) (h .onward),
-      )
+  -- ---- the other way round: a row's number is the one that is given
+
+  abbrev bar : ℕ
+  bar = barOf (s .clock) (s .count) e
+
+  by-bar : StateSound s → {n : ℕ} → B.Bars (s .clock) (s .count) e n → (n ≡ 0 → ⊥) → n ≡ refusalOf (applied s e .answer)
+  by-bar p b z =
+      let q = B.bar-only (s .clock) (s .count) e b in
+      rw (barred-is s e p (λ y. z (sym q ∙ y))) (sym q)
+
+  in-time : Heard s e → B.InTime (s .clock) (s .count) e
+  in-time h = record { ruled = h .ruled; limited = h .limited; onward = h .onward }
+
+  by-own : Heard s e → e .task < s .count → {n : ℕ} → ownFault (afterOne s e) e ≡ n → n ≡ refusalOf (applied s e .answer)
+  by-own h c {n} o = rw (own-is s e (h .sound) (B.bar-only (s .clock) (s .count) e (B.nothing (in-time h) c)), o) (go (eqb n 0) refl)
+    where
+      x : Record
+      x = ownAfter (afterOne s e) e
+
+      go : (b : Bool) → eqb n 0 ≡ b → n ≡ refusalOf (carriedOut s e (cond b (taken x) (kept n (recordAt s (e .task)))) .answer)
+      go true q = eqb-true n 0 q ∙ sym (accepts (moved s (e .time) (set (expiredAll s (e .time)) (e .task) x)))
+      go false q = rw q
+
+  by-step : Heard s e → e .task < s .count → {x : Record} → O.Step (afterOne s e) e x → 0 ≡ refusalOf (applied s e .answer)
+  by-step h c o = by-own h c (O.step-only (afterOne s e) e o)
+
+  by-fault : Heard s e → e .task < s .count → {n : ℕ} → O.Fault (afterOne s e) e n → n ≡ refusalOf (applied s e .answer)
+  by-fault h c o = by-own h c (O.fault-only (afterOne s e) e o)
+
+  -- a tick is of the first task
+  first : Heard s e → e .kind ≡ aTick → e .task < s .count
+  first h k = omega (arith, judge-0 e .0 (h .ruled) .zeroed .tick-task k, h .sound .counted .one)
+
+  -- a kind that breaks no rule and is neither of the others
+  third : Heard s e → (e .kind ≡ aTick → ⊥) → (e .kind ≡ aRelease → ⊥) → e .kind ≡ aCompletion
+  third h k r = omega (arith, judge-0 e .0 (h .ruled) .known)
 
   only : (n : ℕ) → Verdict s e n → n ≡ refusalOf (applied s e .answer)
-  unfolding applied acted timed byKind ticked releasedAt completedAt
-  only n (unsound q) = rw (tells-false (state-tells s) q)
-  only n (unruled p q) = rw (tells-true (state-tells s) p, ne-eqb (faultOf e) 0 q)
-  only n (untimely p z (inl q)) = rw (tells-true (state-tells s) p, eq-eqb _ _ z, lt-ltb limit (e .time) q)
-  only n (untimely p z (inr q)) = rw (tells-true (state-tells s) p, eq-eqb _ _ z) (late (ltb limit (e .time)))
-    where
-      late : (b : Bool) → 9 ≡ refusalOf (cond b (refused s 9) (cond (ltb (e .time) (s .clock)) (refused s 9) (byKind s e)) .answer)
-      late true = refl
-      late false = rw (lt-ltb (e .time) (s .clock) q)
-  only n (no-task h k c) = rw (heard h, ne-eqb (e .kind) 0 k, le-leb _ _ c) (either (eqb (e .kind) 1))
-    where
-      either : (b : Bool) → 10 ≡ refusalOf (cond b (refused s 10) (refused s 10) .answer)
-      either true = refl
-      either false = refl
-  only n (too-soon h k c f) = rw (heard h, ne-eqb (e .kind) 0 (λ z. omega arith), eq-eqb (e .kind) 1 k, lt-leb _ _ c, f)
-  only n (no-job h k r c f) = rw (heard h, ne-eqb (e .kind) 0 k, ne-eqb (e .kind) 1 r, lt-leb _ _ c, f)
-  only n (ticks h k) = rw (heard h, eq-eqb (e .kind) 0 k) (sym (accepts (moved s (e .time) (expiredAll s (e .time)))))
-  only n (releases h k c f) =
-      rw (heard h, ne-eqb (e .kind) 0 (λ z. omega arith), eq-eqb (e .kind) 1 k, lt-leb _ _ c, f)
-      (sym (accepts (moved s (e .time) (set (expiredAll s (e .time)) (e .task) (reopened (afterOne s e) (e .time))))))
-  only n (completes h k r c f) =
-      rw (heard h, ne-eqb (e .kind) 0 k, ne-eqb (e .kind) 1 r, lt-leb _ _ c, f)
-      (sym (accepts (moved s (e .time) (set (expiredAll s (e .time)) (e .task) (closed (afterOne s e) true)))))
+  only n (unsound q) = rw (unsound-is s e q)
+  only n (unruled p q) = by-bar p (B.unruled q) q
+  only n (untimely p z q) = by-bar p (B.untimely z q) (λ y. omega arith)
+  only n (no-task h k c) = by-bar (h .sound) (B.no-task (in-time h) c) (λ y. omega arith)
+  only n (too-soon h k c f) = by-fault h c (O.too-soon k f)
+  only n (no-job h k r c f) = by-fault h c (O.no-job (third h k r) f)
+  only n (ticks h k) = by-step h (first h k) (O.tick k)
+  only n (releases h k c f) = by-step h c (O.release k (rw f))
+  only n (completes h k r c f) = by-step h c (O.completion (third h k r) (rw f))
 
   -- a number is given exactly when its row holds
   pub verdict-exactly : (n : ℕ) → (refusalOf (applied s e .answer) ≡ n) ↔ Verdict s e n

@@ -1,146 +1,69 @@
--- An accepted event leaves exactly the state that the rules' steps say: each of its three kinds does, and two states that they say
--- are the same, place by place.
-use Prim.Native.Nat.{ℕ, zero, suc, _≤_, _<_}
+-- An accepted event leaves exactly the state that the rules' steps say: its own task's step is one of three, every other task has step 1, and two
+-- states that they say are the same, place by place.
+use Prim.Native.Nat.{ℕ, _≤_, _<_}
 use mathlib.Core.Path.{_≡_, refl, sym, ap, subst, _∙_}
-use mathlib.Core.Bool.{true, false}
+use mathlib.Core.Bool.{true}
 use mathlib.Core.Logic.{_⊎_, inl, inr, _↔_}
 use native.Mathlib.Decide.{ℕ-discrete, decLt}
 use native.Mathlib.Omega.{arith}
-use borrow.Author.Tests.{eq-eqb, ne-eqb, lt-leb}
 use lib.ListN.{length, getD, set, length-set}
 use lib.Seq.{ext-getD}
 use Rattle.event_reading.specs.declared.Event.{Event}
-use Rattle.event_reading.specs.Event.{faultOf}
-use Rattle.event_reading.proofs.Rules.{judge-0}
+use Rattle.event_reading.specs.Event.{aTick}
 use Rattle.task_records.specs.declared.Record.{Record}
 use Rattle.task_records.specs.Closing.{closed}
 use Rattle.task_steps.specs.Opening.{expired, noRecord}
-use Rattle.task_steps.specs.Own.{tooSoon, reopened, isOpen}
+use Rattle.task_steps.specs.Own.{reopened}
+use Rattle.task_steps.proofs.OwnSteps.{Step, tick, release, completion, after-tick, after-release, after-completion}
 use Rattle.state_rules.specs.declared.State.{State}
 use Rattle.state_rules.specs.State.{recordAt}
-use Rattle.state_rules.specs.Sound.{StateSound}
 use Rattle.apply_events.specs.declared.Applied.{Applied}
 use Rattle.apply_events.specs.Answers.{refusalOf}
 use Rattle.apply_events.specs.Steps.{expiredAll}
-use Rattle.apply_events.specs.Apply.{answerOf, moved, accepted, ticked, releasedAt, completedAt, byKind, applied}
-use Rattle.apply_events.specs.Verdict.{afterOne, Heard, Verdict, unsound, unruled, untimely, no-task, too-soon, no-job, ticks, releases, completes}
+use Rattle.apply_events.specs.Apply.{moved, applied}
+use Rattle.apply_events.specs.Verdict.{afterOne}
 use Rattle.apply_events.specs.Leaves.{Leaves}
-use Rattle.apply_events.proofs.Exactly.{heard, verdict-exactly}
-use Rattle.apply_events.proofs.Places.{places, expired-length, expired-at, expired-past, stored-here, stored-other}
+use Rattle.apply_events.proofs.Happened.{Happened, refusal, acceptance, happened}
+use Rattle.apply_events.proofs.Places.{places, expired-length, expired-past, stored-here, stored-else, stored-other, stored-place}
 
-module _ (s : State) (e : Event) where
+module _ (s : State) (e : Event) {x : Record} (c : e .task < s .count) (o : Step (afterOne s e) e x) where
   abbrev t : ℕ
   t = e .time
 
-  -- what each kind is applied as, once it is accepted
-  tick-is : Heard s e → e .kind ≡ 0 → applied s e ≡ accepted s t (expiredAll s t)
-  unfolding byKind ticked
-  tick-is h k = rw (heard s e h, eq-eqb (e .kind) 0 k)
-
-  release-is : Heard s e → e .kind ≡ 1 → e .task < s .count → tooSoon (afterOne s e) t ≡ false
-      → applied s e ≡ accepted s t (set (expiredAll s t) (e .task) (reopened (afterOne s e) t))
-  unfolding byKind releasedAt
-  release-is h k c f = rw (heard s e h, ne-eqb (e .kind) 0 (λ z. omega arith), eq-eqb (e .kind) 1 k, lt-leb _ _ c, f)
-
-  completion-is : Heard s e → (e .kind ≡ 0 → ⊥) → (e .kind ≡ 1 → ⊥) → e .task < s .count → isOpen (afterOne s e) (e .job) ≡ true
-      → applied s e ≡ accepted s t (set (expiredAll s t) (e .task) (closed (afterOne s e) true))
-  unfolding byKind completedAt
-  completion-is h k r c f = rw (heard s e h, ne-eqb (e .kind) 0 k, ne-eqb (e .kind) 1 r, lt-leb _ _ c, f)
-
   module _ (room : s .count ≤ length (s .records)) where
-    tick-leaves : e .kind ≡ 0 → Leaves s e (moved s t (expiredAll s t))
-    tick-leaves k =
-        record {
-          clock = refl;
-          count = refl;
-          places = expired-length s t;
-          others = λ i h o. expired-at s t room i h;
-          release = λ z. absurd (omega arith);
-          completion = λ z. absurd (omega arith);
-          past = expired-past s t;
-        }
+    here : getD (set (expiredAll s t) (e .task) x) (e .task) noRecord ≡ x
+    here = stored-here s t (e .task) x room c
 
-    -- the event's own record is x
-    one-leaves : (x : Record) → e .task < s .count → (e .kind ≡ 0 → ⊥)
-        → (e .kind ≡ 1 → x ≡ reopened (afterOne s e) t) → (e .kind ≡ 2 → x ≡ closed (afterOne s e) true)
-        → Leaves s e (moved s t (set (expiredAll s t) (e .task) x))
-    one-leaves x c k r d =
+    -- all that a tick does, and all that happens to another task
+    step-1 : (i : ℕ) → i < s .count → (e .kind ≡ aTick) ⊎ (i ≡ e .task → ⊥) → getD (set (expiredAll s t) (e .task) x) i noRecord ≡ expired (recordAt s i) t
+    step-1 i h (inr n) = stored-else s t (e .task) x room i h n
+    step-1 i h (inl k) =
+        stored-place s t (e .task) x (λ (y : Record). y ≡ expired (recordAt s i) t) room c i h
+        (λ z. after-tick (afterOne s e) e o k ∙ ap (λ (j : ℕ). expired (recordAt s j) t) (sym z)) (λ z. refl)
+
+    leaves : Leaves s e (moved s t (set (expiredAll s t) (e .task) x))
+    leaves =
         record {
           clock = refl;
           count = refl;
           places = simp length-set (expired-length s t);
-          others = λ i h o. other i h o;
-          release = λ z. stored-here s t (e .task) x room c ∙ r z;
-          completion = λ z. stored-here s t (e .task) x room c ∙ d z;
+          others = step-1;
+          release = λ k. here ∙ after-release (afterOne s e) e o k;
+          completion = λ k. here ∙ after-completion (afterOne s e) e o k;
           past = λ i h. stored-other s t (e .task) x i (λ z. omega arith) ∙ expired-past s t i h;
         }
-      where
-        other : (i : ℕ) → i < s .count → (e .kind ≡ 0) ⊎ (i ≡ e .task → ⊥) → getD (set (expiredAll s t) (e .task) x) i noRecord ≡ expired (recordAt s i) t
-        other i h (inl z) = absurd (k z)
-        other i h (inr n) = stored-other s t (e .task) x i n ∙ expired-at s t room i h
-
-  -- of the rows of the table only the last three have number 0
-  pub data Accepts : Type 0 where
-    tick : Heard s e → e .kind ≡ 0 → Accepts
-    release : Heard s e → e .kind ≡ 1 → e .task < s .count → tooSoon (afterOne s e) t ≡ false → Accepts
-    completion : Heard s e → (e .kind ≡ 0 → ⊥) → (e .kind ≡ 1 → ⊥) → e .task < s .count → isOpen (afterOne s e) (e .job) ≡ true → Accepts
-
-  by-number : (n : ℕ) → Verdict s e n → n ≡ 0 → Accepts
-  by-number n (unsound q) z = absurd (omega (arith, z))
-  by-number n (unruled p q) z = absurd (q z)
-  by-number n (untimely p q r) z = absurd (omega (arith, z))
-  by-number n (no-task h k c) z = absurd (omega (arith, z))
-  by-number n (too-soon h k c f) z = absurd (omega (arith, z))
-  by-number n (no-job h k r c f) z = absurd (omega (arith, z))
-  by-number n (ticks h k) z = tick h k
-  by-number n (releases h k c f) z = release h k c f
-  by-number n (completes h k r c f) z = completion h k r c f
-
-  pub accepts-by : refusalOf (applied s e .answer) ≡ 0 → Accepts
-  accepts-by a = by-number 0 (verdict-exactly s e 0 .0 a) refl
-
-  accepted-leaves : Accepts → Leaves s e (applied s e .state)
-  accepted-leaves (tick h k) = rw (tick-is h k) (tick-leaves (places s (h .sound)) k)
-  accepted-leaves (release h k c f) =
-      rw (release-is h k c f)
-      (one-leaves (places s (h .sound)) (reopened (afterOne s e) t) c (λ y. omega arith) (λ y. refl) (λ y. absurd (omega arith)))
-  accepted-leaves (completion h k r c f) =
-      rw (completion-is h k r c f) (one-leaves (places s (h .sound)) (closed (afterOne s e) true) c k (λ y. absurd (r y)) (λ y. refl))
-
-  pub heard-by : Accepts → Heard s e
-  heard-by (tick h k) = h
-  heard-by (release h k c f) = h
-  heard-by (completion h k r c f) = h
-
-  -- an accepted event answers the choice of the state that it leaves
-  answered : Accepts → applied s e .answer ≡ answerOf (applied s e .state)
-  answered (tick h k) = rw (tick-is h k)
-  answered (release h k c f) = rw (release-is h k c f)
-  answered (completion h k r c f) = rw (completion-is h k r c f)
-
-  pub answers-so : refusalOf (applied s e .answer) ≡ 0 → applied s e .answer ≡ answerOf (applied s e .state)
-  answers-so a = answered (accepts-by a)
-
-  -- a kind that breaks no rule is one of three
-  kinds : Heard s e → (e .kind ≡ 0) ⊎ ((e .kind ≡ 1) ⊎ (e .kind ≡ 2))
-  kinds h = go (ℕ-discrete (e .kind) 0) (ℕ-discrete (e .kind) 1) (judge-0 e .0 (h .ruled) .known)
-    where
-      go : Dec (e .kind ≡ 0) → Dec (e .kind ≡ 1) → e .kind ≤ 2 → (e .kind ≡ 0) ⊎ ((e .kind ≡ 1) ⊎ (e .kind ≡ 2))
-      go (yes a) b k = inl a
-      go (no a) (yes b) k = inr (inl b)
-      go (no a) (no b) k = inr (inr (omega arith))
 
   -- the steps leave one state
-  module _ (h : Heard s e) (a b : State) (f : Leaves s e a) (g : Leaves s e b) where
-    own : (e .kind ≡ 0) ⊎ ((e .kind ≡ 1) ⊎ (e .kind ≡ 2)) → e .task < s .count → recordAt a (e .task) ≡ recordAt b (e .task)
-    own (inl z) c = f .others (e .task) c (inl z) ∙ sym (g .others (e .task) c (inl z))
-    own (inr (inl z)) c = f .release z ∙ sym (g .release z)
-    own (inr (inr z)) c = f .completion z ∙ sym (g .completion z)
+  module _ (a b : State) (f : Leaves s e a) (g : Leaves s e b) where
+    own : {y : Record} → Step (afterOne s e) e y → recordAt a (e .task) ≡ recordAt b (e .task)
+    own (tick k) = f .others (e .task) c (inl k) ∙ sym (g .others (e .task) c (inl k))
+    own (release k n) = f .release k ∙ sym (g .release k)
+    own (completion k n) = f .completion k ∙ sym (g .completion k)
 
     each : (i : ℕ) → Dec (i < s .count) → Dec (i ≡ e .task) → recordAt a i ≡ recordAt b i
     each i (no n) d = f .past i (omega arith) ∙ sym (g .past i (omega arith))
-    each i (yes c) (no d) = f .others i c (inr d) ∙ sym (g .others i c (inr d))
-    each i (yes c) (yes d) = rw d (own (kinds h) (rw d at c))
+    each i (yes h) (no d) = f .others i h (inr d) ∙ sym (g .others i h (inr d))
+    each i (yes h) (yes d) = rw d (own o)
 
     one-state : a ≡ b
     one-state =
@@ -153,8 +76,13 @@ module _ (s : State) (e : Event) where
             ∙ ap (λ (c : ℕ). record { count = y .count; clock = c; records = x .records }) q
             ∙ ap (moved y (y .clock)) r
 
-  -- an accepted event leaves a state exactly when the steps say so
+-- an accepted event leaves a state exactly when the steps say so
+module _ (s : State) (e : Event) where
   pub leaves-exactly : refusalOf (applied s e .answer) ≡ 0 → (q : State) → (applied s e .state ≡ q) ↔ Leaves s e q
-  leaves-exactly a q =
-      let w = accepts-by a in
-      (λ z. subst (Leaves s e) z (accepted-leaves w), λ l. one-state (heard-by w) (applied s e .state) q (accepted-leaves w) l)
+  leaves-exactly a q = go (happened s e) a
+    where
+      go : {b : Applied} → Happened s e b → refusalOf (b .answer) ≡ 0 → (b .state ≡ q) ↔ Leaves s e q
+      go (refusal n z v) y = absurd (z y)
+      go {b} (acceptance h c o) y =
+          let l = leaves s e c o (places s (h .sound)) in
+          (λ z. subst (Leaves s e) z l, λ f. one-state s e c o (b .state) q l f)

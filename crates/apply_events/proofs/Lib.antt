@@ -1,4 +1,5 @@
 -- What is shown of an event's effect.
+pub mod Happened
 pub mod Exactly
 pub mod Left
 pub mod Chosen

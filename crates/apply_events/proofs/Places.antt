@@ -1,7 +1,7 @@
 -- What an event leaves at each position: step 1 on every task, the event's own step on its task alone, and nothing past the last task.
 use Prim.Native.Nat.{ℕ, _≤_, _<_, _-_}
-use mathlib.Core.Path.{_≡_, sym, ap, _∙_}
-use native.Mathlib.Decide.{decLt}
+use mathlib.Core.Path.{_≡_, sym, ap, subst, _∙_}
+use native.Mathlib.Decide.{ℕ-discrete, decLt}
 use native.Mathlib.Omega.{arith}
 use lib.ListN.{length, getD, set, List·getD-eq-default}
 use lib.Seq.{getD-set-same, getD-set-other}
@@ -47,3 +47,17 @@ module _ (s : State) (t : ℕ) where
 
     pub stored-other : (i : ℕ) → (i ≡ k → ⊥) → getD (set (expiredAll s t) k x) i noRecord ≡ getD (expiredAll s t) i noRecord
     stored-other i n = getD-set-other (expiredAll s t) k i x noRecord n
+
+    -- another task has step 1
+    pub stored-else : s .count ≤ length (s .records) → (i : ℕ) → i < s .count → (i ≡ k → ⊥)
+        → getD (set (expiredAll s t) k x) i noRecord ≡ expired (recordAt s i) t
+    stored-else h i l n = stored-other i n ∙ expired-at h i l
+
+    -- what the record at k has, and what step 1 leaves of every other task, each place has
+    pub stored-place : (P : Record → Type 0) → s .count ≤ length (s .records) → k < s .count → (i : ℕ) → i < s .count
+        → (i ≡ k → P x) → ((i ≡ k → ⊥) → P (expired (recordAt s i) t)) → P (getD (set (expiredAll s t) k x) i noRecord)
+    stored-place P h b i l f g = go (ℕ-discrete i k)
+      where
+        go : Dec (i ≡ k) → P (getD (set (expiredAll s t) k x) i noRecord)
+        go (yes z) = subst P (sym (ap (λ (j : ℕ). getD (set (expiredAll s t) k x) j noRecord) z ∙ stored-here h b)) (f z)
+        go (no z) = subst P (sym (stored-else h i l z)) (g z)

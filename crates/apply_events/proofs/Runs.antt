@@ -12,22 +12,17 @@ use Rattle.event_reading.specs.declared.Reading.the-variants as R
 use Rattle.event_reading.specs.Record.{readRecord}
 use Rattle.event_logs.specs.Log.{eventsOf}
 use Rattle.event_logs.specs.Ending.{endingAt, endingOf, endingFrom, endSaid}
-use Rattle.event_logs.proofs.Logs.{events-more, events-none}
+use Rattle.event_logs.proofs.Logs.{events-more, events-none, events-empty}
 use Rattle.event_logs.proofs.Endings.{ending-none, ending-more, ending-stop, ending-most}
 use Rattle.event_logs.proofs.Going.{Going, going-none, going-more, going-stop, going-ending}
 use Rattle.state_rules.specs.declared.State.{State}
 use Rattle.state_rules.specs.Sound.{StateSound}
 use Rattle.state_rules.proofs.Sounding.{state-tells}
 use Rattle.apply_events.specs.declared.Applied.{Applied}
-use Rattle.apply_events.specs.Apply.{acted, applied}
+use Rattle.apply_events.specs.Apply.{applied}
 use Rattle.apply_events.specs.Log.{standing, ranOver, stateAfter, endedWith, ran}
 use Rattle.apply_events.proofs.Frame.{count-stays}
 use Rattle.apply_events.proofs.Kept.{applied-sound}
-
--- on a sound state applying is acting
-pub sound-acts : (s : State) (e : Event) → StateSound s → acted s e ≡ applied s e
-unfolding applied
-sound-acts s e p = rw (tells-true (state-tells s) p)
 
 -- the state after some events is that of the run over them, whatever was answered before
 pub ran-by : (a : Applied) (es : List Event) → stateAfter (a .state) es ≡ ranOver a es .state
@@ -37,8 +32,8 @@ ran-by a (e ∷ es) = ran-by (applied (a .state) e) es
 
 -- nothing follows in an empty log
 pub ran-nothing : (a : Applied) → ranOver a (eventsOf []) ≡ a
-unfolding ranOver readRecord
-ran-nothing a = rw (events-none [] (λ e q. let z : _≡_ {A = ℕ} 0 1 = cc in absurd (omega arith)))
+unfolding ranOver
+ran-nothing a = rw events-empty
 
 -- 15 ends the reading exactly where the state is not sound: what does not read has 5 to 8
 pub ran-15 : (s : State) (log : List ℕ) → endSaid (ran s log .ending) .number ≡ 15 ↔ (StateSound s → ⊥)

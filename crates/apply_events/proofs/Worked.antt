@@ -2,24 +2,18 @@
 use Prim.Native.Nat.{ℕ}
 use mathlib.Core.Path.{_≡_, refl}
 use mathlib.Core.List.{List, [], _∷_, map}
-use lib.Count.{ones, onesIn}
 use lib.ListN.{replicate}
-use Rattle.laws.specs.Stores.{filled}
 use Rattle.table_rules.specs.declared.Table.{Table}
-use Rattle.table_rules.specs.Rules.{noTask, taskFault}
+use Rattle.table_rules.specs.Rules.{noTask}
 use Rattle.task_thresholds.proofs.Worked.{Row, rowOf, pairs, rows}
 use Rattle.event_reading.specs.declared.Event.{Event}
-use Rattle.event_reading.specs.Event.{faultOf, zeroes}
-use Rattle.task_records.specs.Closing.{closed}
-use Rattle.task_steps.specs.Opening.{expired, opened}
-use Rattle.task_soundness.specs.Sound.{soundHolds}
+use Rattle.event_reading.specs.Event.{aTick, aRelease, aCompletion}
 use Rattle.state_rules.specs.declared.State.{State}
 use Rattle.state_rules.specs.State.{freshState}
-use Rattle.state_rules.specs.Sound.{eachHolds, stateHolds}
-use Rattle.state_choice.specs.Choice.{bestTo}
 use Rattle.apply_events.specs.declared.Answer.{Answer}
 use Rattle.apply_events.specs.declared.Answer.the-variants.{Run, Idle, Refused}
-use Rattle.apply_events.specs.Apply.{ticked, releasedAt, completedAt, byKind, timed, acted, applied}
+use Rattle.apply_events.specs.Apply.{applied}
+use Rattle.apply_events.proofs.Computing.{event-computes}
 
 -- tasks 0: (2,4,4,(1,2)) and 1: (3,7,8,(1,3))
 abbrev pub listed : Table
@@ -30,13 +24,13 @@ listed =
     }
 
 abbrev release : ℕ → ℕ → Event
-release task time = record { kind = 1; task = task; job = 0; time = time }
+release task time = record { kind = aRelease; task = task; job = 0; time = time }
 
 abbrev complete : ℕ → ℕ → ℕ → Event
-complete task job time = record { kind = 2; task = task; job = job; time = time }
+complete task job time = record { kind = aCompletion; task = task; job = job; time = time }
 
 abbrev tick : ℕ → Event
-tick time = record { kind = 0; task = 0; job = 0; time = time }
+tick time = record { kind = aTick; task = 0; job = 0; time = time }
 
 abbrev pub events : List Event
 events =
@@ -72,5 +66,5 @@ abbrev Document : Type 0
 Document = List Row × List Answer
 
 pub document : _≡_ {A = Document} (map rowOf pairs, answers (freshState listed) events) (rows, told)
-unfolding applied acted timed byKind ticked releasedAt completedAt closed expired opened filled bestTo soundHolds eachHolds stateHolds taskFault faultOf zeroes ones onesIn
+unfolding event-computes
 document = refl

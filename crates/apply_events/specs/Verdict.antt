@@ -4,7 +4,7 @@ use mathlib.Core.Path.{_≡_}
 use mathlib.Core.Bool.{true, false}
 use mathlib.Core.Logic.{_⊎_}
 use Rattle.event_reading.specs.declared.Event.{Event}
-use Rattle.event_reading.specs.Event.{faultOf}
+use Rattle.event_reading.specs.Event.{aTick, aRelease, faultOf}
 use Rattle.task_records.specs.declared.Record.{Record}
 use Rattle.task_steps.specs.Opening.{expired}
 use Rattle.state_rules.specs.declared.State.{State}
@@ -28,10 +28,10 @@ pub data Verdict (s : State) (e : Event) : ℕ → Type 0 where
   -- 7 or 8, as the event's value breaks its rules
   unruled : StateSound s → (faultOf e ≡ 0 → ⊥) → Verdict s e (faultOf e)
   untimely : StateSound s → faultOf e ≡ 0 → (limit < e .time) ⊎ (e .time < s .clock) → Verdict s e 9
-  no-task : Heard s e → (e .kind ≡ 0 → ⊥) → s .count ≤ e .task → Verdict s e 10
-  too-soon : Heard s e → e .kind ≡ 1 → e .task < s .count → tooSoon (afterOne s e) (e .time) ≡ true → Verdict s e 11
-  no-job : Heard s e → (e .kind ≡ 0 → ⊥) → (e .kind ≡ 1 → ⊥) → e .task < s .count → isOpen (afterOne s e) (e .job) ≡ false → Verdict s e 12
+  no-task : Heard s e → (e .kind ≡ aTick → ⊥) → s .count ≤ e .task → Verdict s e 10
+  too-soon : Heard s e → e .kind ≡ aRelease → e .task < s .count → tooSoon (afterOne s e) (e .time) ≡ true → Verdict s e 11
+  no-job : Heard s e → (e .kind ≡ aTick → ⊥) → (e .kind ≡ aRelease → ⊥) → e .task < s .count → isOpen (afterOne s e) (e .job) ≡ false → Verdict s e 12
   -- accepted
-  ticks : Heard s e → e .kind ≡ 0 → Verdict s e 0
-  releases : Heard s e → e .kind ≡ 1 → e .task < s .count → tooSoon (afterOne s e) (e .time) ≡ false → Verdict s e 0
-  completes : Heard s e → (e .kind ≡ 0 → ⊥) → (e .kind ≡ 1 → ⊥) → e .task < s .count → isOpen (afterOne s e) (e .job) ≡ true → Verdict s e 0
+  ticks : Heard s e → e .kind ≡ aTick → Verdict s e 0
+  releases : Heard s e → e .kind ≡ aRelease → e .task < s .count → tooSoon (afterOne s e) (e .time) ≡ false → Verdict s e 0
+  completes : Heard s e → (e .kind ≡ aTick → ⊥) → (e .kind ≡ aRelease → ⊥) → e .task < s .count → isOpen (afterOne s e) (e .job) ≡ true → Verdict s e 0

@@ -1,2 +1,3 @@
 -- What is shown of rulings beside the functions' contracts.
-pub mod Prompt
+pub mod Bars
+pub mod Seats

@@ -1,7 +1,10 @@
 // Tables of small times and events near the clock, so that every refusal, expiry and completion comes up.
 use crate::dice::next;
 use crate::dice::pick;
+use event_reading::COMPLETION;
 use event_reading::Event;
+use event_reading::RELEASE;
+use event_reading::TICK;
 use state_rules::State;
 use table_rules::Table;
 use table_rules::Task;
@@ -91,7 +94,7 @@ pub fn event(state: State, x: u64) -> Event {
     let time = time_of(state.clock, x2);
     if kind < 4 {
         return Event {
-            kind: 0,
+            kind: TICK,
             task: 0,
             job: 0,
             time: time,
@@ -99,7 +102,7 @@ pub fn event(state: State, x: u64) -> Event {
     }
     if kind < 12 {
         return Event {
-            kind: 1,
+            kind: RELEASE,
             task: (task % 256) as u8,
             job: 0,
             time: time,
@@ -108,7 +111,7 @@ pub fn event(state: State, x: u64) -> Event {
     if kind < 20 {
         let job = job_of(state, task, x3);
         return Event {
-            kind: 2,
+            kind: COMPLETION,
             task: (task % 256) as u8,
             job: job,
             time: time,

@@ -9,7 +9,7 @@ use Rattle.number_reading.specs.Words.{number}
 use Rattle.event_reading.specs.declared.Event.{Event}
 use Rattle.event_reading.specs.declared.Reading.{Reading}
 use Rattle.event_reading.specs.declared.Reading.the-variants as R
-use Rattle.event_reading.specs.Event.{Zeroed, Ruled, faultOf}
+use Rattle.event_reading.specs.Event.{lastKind, Zeroed, Ruled, faultOf}
 
 -- the mark that a record begins with
 pub record Marked (s : List ℕ) : Type 0 where
@@ -25,8 +25,8 @@ pub data Reads (s : List ℕ) : Reading → Type 0 where
   ended : length s ≡ 0 → Reads s R.End
   short : 0 < length s → length s < 20 → Reads s (R.Refused 5)
   unmarked : 20 ≤ length s → (Marked s → ⊥) → Reads s (R.Refused 6)
-  unknown : 20 ≤ length s → Marked s → 2 < eventOf s .kind → Reads s (R.Refused 7)
-  stray : 20 ≤ length s → Marked s → eventOf s .kind ≤ 2 → (Zeroed (eventOf s) → ⊥) → Reads s (R.Refused 8)
+  unknown : 20 ≤ length s → Marked s → lastKind < eventOf s .kind → Reads s (R.Refused 7)
+  stray : 20 ≤ length s → Marked s → eventOf s .kind ≤ lastKind → (Zeroed (eventOf s) → ⊥) → Reads s (R.Refused 8)
   whole : 20 ≤ length s → Marked s → Ruled (eventOf s) → Reads s (R.Event (eventOf s))
 
 -- the same as computed tests: `reads-is` and `reads-only` show that they agree

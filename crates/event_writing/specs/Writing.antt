@@ -8,7 +8,7 @@ use Rattle.number_writing.specs.Bytes.{bytes}
 use Rattle.event_reading.specs.declared.Event.{Event}
 use Rattle.event_writing.specs.declared.Writing.{Writing}
 use Rattle.event_writing.specs.declared.Writing.the-variants as W
-use Rattle.event_reading.specs.Event.{Zeroed, Ruled, faultOf}
+use Rattle.event_reading.specs.Event.{lastKind, Zeroed, Ruled, faultOf}
 use Rattle.laws.specs.Said.{Said}
 
 -- the mark, the kind and the task
@@ -21,8 +21,8 @@ recordOf e = headOf (e .kind) (e .task) ++ (bytes 8 (e .job) ++ bytes 8 (e .time
 
 -- what writing to a slice says and the slice afterwards, rule by rule: 7, 8, then 14, then the record with the bytes past it as they were
 pub data Writes (e : Event) (s : List ℕ) : Writing → List ℕ → Type 0 where
-  broken-7 : 2 < e .kind → Writes e s (W.Refused 7) s
-  broken-8 : e .kind ≤ 2 → (Zeroed e → ⊥) → Writes e s (W.Refused 8) s
+  broken-7 : lastKind < e .kind → Writes e s (W.Refused 7) s
+  broken-8 : e .kind ≤ lastKind → (Zeroed e → ⊥) → Writes e s (W.Refused 8) s
   cramped : Ruled e → length s < 20 → Writes e s (W.Refused 14) s
   stored : Ruled e → 20 ≤ length s → Writes e s W.Whole (recordOf e ++ drop 20 s)
 

@@ -13,12 +13,13 @@ use Rattle.event_reading.specs.declared.Event.{Event}
 use Rattle.table_rules.specs.declared.Task.{Task}
 use Rattle.task_records.specs.declared.Record.{Record}
 use Rattle.task_records.specs.Closing.{closed}
+use Rattle.task_records.proofs.Steps.{closed-idle}
 use Rattle.task_steps.specs.Opening.{expired, opened}
 use Rattle.task_soundness.proofs.Kept.{end}
 use Rattle.task_steps.specs.Own.{tooSoon, reopened}
 use Rattle.apply_events.proofs.Kept.{spaced-by}
 use Rattle.run_histories.specs.History.{Job, closedJob}
-use Rattle.run_histories.proofs.Steps.{closed-idle, cleared, cleared-open, cleared-none, cleared-same, cleared-idle, Expired, over, stays, expiry, expired-same}
+use Rattle.run_histories.proofs.Steps.{cleared, cleared-open, cleared-none, cleared-same, cleared-idle, Expired, over, stays, expiry, expired-same}
 use Rattle.run_histories.proofs.Steps.{expired-open}
 use Rattle.run_histories.proofs.Closes.{jobsWith, closes-none, closes-stays, closes-idle, closes-next, other-kind, other-task, own-task}
 use Rattle.guarantee.proofs.Busy.{keep, add}

@@ -15,6 +15,7 @@ use Rattle.table_rules.specs.declared.Task.{Task}
 use Rattle.table_rules.specs.Rules.{taskFault}
 use Rattle.task_records.specs.declared.Record.{Record}
 use Rattle.task_records.specs.Closing.{closed}
+use Rattle.task_records.proofs.Steps.{closed-idle}
 use Rattle.task_steps.specs.Opening.{fresh, opened}
 use Rattle.task_soundness.specs.Sound.{Sound}
 use Rattle.task_soundness.proofs.Kept.{end, fresh-sound, closed-sound, opened-sound, later-sound}
@@ -23,7 +24,7 @@ use Rattle.run_windows.specs.Bound.{Ledger}
 use Rattle.run_windows.proofs.Ledgers.{ledger-fresh, ledger-opened, ledger-met, ledger-missed}
 use Rattle.run_histories.specs.History.{Job, outcomesOf, Each}
 use Rattle.guarantee.specs.Guarantee.{Good}
-use Rattle.run_histories.proofs.Steps.{closed-same, closed-idle}
+use Rattle.run_histories.proofs.Steps.{closed-same}
 
 -- an open job of the required class
 abbrev pub isDue : Record → Bool

@@ -17,6 +17,7 @@ use Rattle.table_rules.specs.declared.Table.{Table}
 use Rattle.table_rules.specs.declared.Answer.the-variants.{Accepted}
 use Rattle.table_rules.specs.Judging.{judged}
 use Rattle.table_rules.proofs.Exactly.{judged-accepted}
+use Rattle.event_reading.specs.Event.{aTick, aRelease, aCompletion}
 use Rattle.task_records.specs.declared.Record.{Record}
 use Rattle.task_records.specs.Closing.{closed}
 use Rattle.task_soundness.proofs.Kept.{end}
@@ -33,14 +34,17 @@ use Rattle.bound_demand.proofs.Order.{above-tells}
 use Rattle.bound_demand.proofs.Obeyed.{deadline-most}
 use Rattle.apply_events.specs.declared.Applied.{Applied}
 use Rattle.task_steps.specs.Own.{tooSoon, reopened}
+use Rattle.task_steps.proofs.OwnSteps.{tick, release, completion, in-turn, job-open}
 use Rattle.apply_events.specs.Steps.{expiredAll}
 use Rattle.apply_events.specs.Apply.{accepted, applied}
+use Rattle.apply_events.proofs.Happened.{Happened, refusal, acceptance, happened}
+use Rattle.apply_events.proofs.Places.{places, stored-here, stored-else}
 use Rattle.run_histories.specs.History.{runState, runRecord, accepts, isAccepted, jobsOf}
 use Rattle.guarantee.specs.ChosenTime.{isChoice, openTime}
 use Rattle.guarantee.specs.Premise.{Timely, Premise}
 use Rattle.run_histories.proofs.Steps.{Same, expired-same, is-open}
-use Rattle.run_histories.proofs.Taken.{accepts-answer, passed, Took, refusal, tick, release, completion, took, all-passed, set-there, set-elsewhere}
-use Rattle.run_histories.proofs.Reached.{Reached, room-for, reached}
+use Rattle.run_histories.proofs.Taken.{accepts-answer, passed}
+use Rattle.run_histories.proofs.Reached.{Reached, reached}
 use Rattle.run_histories.proofs.Closes.{closes-stays}
 use Rattle.guarantee.proofs.Ticks.{time-rises, time-before, time-unmoved, time-chosen}
 use Rattle.guarantee.proofs.Busy.{keep, rebase}
@@ -114,7 +118,7 @@ module _ (t : Table) (good : judged t ≡ Accepted) (bound space : ℕ → ℕ) 
     r = reached t good es
 
     room : s .count ≤ length (s .records)
-    room = room-for t good s r
+    room = places s (r .sound)
 
     inside : (i : ℕ) → i < t .count → i < s .count
     inside i h = rw (r .count) h
@@ -228,16 +232,7 @@ module _ (t : Table) (good : judged t ≡ Accepted) (bound space : ℕ → ℕ) 
       at-time : next .clock ≡ e .time → Holds (momentAt from (e ∷ es) (e .time)) → Onto
       at-time clk x = subst (λ (c : ℕ). Holds (momentAt from (e ∷ es) c)) (sym clk) x
 
-      steady-tick : e .time ≤ end → e .kind ≡ 0 → next ≡ accepted s (e .time) (expiredAll s (e .time)) .state → Onto
-      unfolding jobsOf
-      steady-tick short k st =
-          let clk = ap (λ (x : State). x .clock) st in
-          let same : (i : ℕ) → i < t .count → new i ≡ passed s e i = λ i h. record-in _ st i ∙ all-passed s e room i (inside i h) in
-          at-time clk
-          (on-tick (t .count) (taskAt t) (isAbove t) bound space gate quota g m inv e onward short later picks less (new) (leftAfter from (e ∷ es)) k
-          same (λ i h. left-same i clk (same-as i (same i h))))
-
-      -- one record changes, after step 1
+      -- one record may change, after step 1
       module _ (q : Record) (c : e .task < s .count) (st : next ≡ accepted s (e .time) (set (expiredAll s (e .time)) (e .task) q) .state) where
         clk : next .clock ≡ e .time
         clk = ap (λ (x : State). x .clock) st
@@ -246,22 +241,33 @@ module _ (t : Table) (good : judged t ≡ Accepted) (bound space : ℕ → ℕ) 
         below = rw (r .count) at c
 
         there : new (e .task) ≡ q
-        there = record-in _ st (e .task) ∙ set-there s e room q c
+        there = record-in _ st (e .task) ∙ stored-here s (e .time) (e .task) q room c
 
         elsewhere : (i : ℕ) → i < t .count → (i ≡ e .task → ⊥) → new i ≡ passed s e i
-        elsewhere i h z = record-in _ st i ∙ set-elsewhere s e room q i (inside i h) z
+        elsewhere i h z = record-in _ st i ∙ stored-else s (e .time) (e .task) q room i (inside i h) z
 
         lefts : (i : ℕ) → i < t .count → (i ≡ e .task → ⊥) → leftAfter from (e ∷ es) i ≤ later i
         lefts i h z = left-same i clk (same-as i (elsewhere i h z))
 
-        steady-completion : e .time ≤ end → e .kind ≡ 2 → passed s e (e .task) .live ≡ true → q ≡ closed (passed s e (e .task)) true → Onto
+        steady-tick : e .time ≤ end → e .kind ≡ aTick → q ≡ passed s e (e .task) → Onto
+        unfolding jobsOf
+        steady-tick short k z =
+            at-time clk
+            (on-tick (t .count) (taskAt t) (isAbove t) bound space gate quota g m inv e onward short later picks less (new) (leftAfter from (e ∷ es)) k
+            (λ i h. same i h (ℕ-discrete i (e .task))) (λ i h. left-same i clk (same-as i (same i h (ℕ-discrete i (e .task))))))
+          where
+            same : (i : ℕ) → i < t .count → Dec (i ≡ e .task) → new i ≡ passed s e i
+            same i h (yes y) = ap new y ∙ there ∙ z ∙ ap (passed s e) (sym y)
+            same i h (no y) = elsewhere i h y
+
+        steady-completion : e .time ≤ end → e .kind ≡ aCompletion → passed s e (e .task) .live ≡ true → q ≡ closed (passed s e (e .task)) true → Onto
         unfolding jobsOf
         steady-completion short k l z =
             at-time clk
             (on-completion (t .count) (taskAt t) (isAbove t) bound space gate quota g m inv e onward short later picks less (new)
             (leftAfter from (e ∷ es)) below elsewhere lefts k l (there ∙ z))
 
-        steady-release : e .time ≤ end → e .kind ≡ 1 → tooSoon (passed s e (e .task)) (e .time) ≡ false → q ≡ reopened (passed s e (e .task)) (e .time) → Onto
+        steady-release : e .time ≤ end → e .kind ≡ aRelease → tooSoon (passed s e (e .task)) (e .time) ≡ false → q ≡ reopened (passed s e (e .task)) (e .time) → Onto
         unfolding jobsOf
         steady-release short k o z =
             at-time clk
@@ -270,21 +276,22 @@ module _ (t : Table) (good : judged t ≡ Accepted) (bound space : ℕ → ℕ) 
             (omega (arith, ap (λ (x : Task). x .c) (reached t good (e ∷ es) .tasks (e .task) below))))
 
     steady-next : Holds m → (isAccepted from es e ≡ true → Timely from es e) → Holds (momentAt from (e ∷ es) (next .clock))
-    steady-next inv timely = go (applied s e) refl (took s e (r .sound))
+    steady-next inv timely = go (applied s e) refl (happened s e)
       where
-        go : (a : Applied) → applied s e ≡ a → Took s e a → Holds (momentAt from (e ∷ es) (next .clock))
-        go a q (refusal n) = steady-refused (next-state from es e ∙ ap (λ (x : Applied). x .state) q) inv
-        go a q (tick x k) =
+        go : (a : Applied) → applied s e ≡ a → Happened s e a → Holds (momentAt from (e ∷ es) (next .clock))
+        go a q (refusal n z v) = steady-refused (next-state from es e ∙ ap (λ (x : Applied). x .state) q) inv
+        go a q (acceptance x c (tick k)) =
             steady-tick inv (x .onward) (timely (ap (λ (y : Applied). accepts (y .answer)) q ∙ accepts-answer (a .state)))
-            (x .within) k (next-state from es e ∙ ap (λ (y : Applied). y .state) q)
-        go a q (release x k c o) =
+            (passed s e (e .task)) c (next-state from es e ∙ ap (λ (y : Applied). y .state) q)
+            (x .limited) k refl
+        go a q (acceptance x c (release k o)) =
             steady-release inv (x .onward) (timely (ap (λ (y : Applied). accepts (y .answer)) q ∙ accepts-answer (a .state)))
             (reopened (passed s e (e .task)) (e .time)) c (next-state from es e ∙ ap (λ (y : Applied). y .state) q)
-            (x .within) k o refl
-        go a q (completion x k c o) =
+            (x .limited) k (in-turn (passed s e (e .task)) e o) refl
+        go a q (acceptance x c (completion k o)) =
             steady-completion inv (x .onward) (timely (ap (λ (y : Applied). accepts (y .answer)) q ∙ accepts-answer (a .state)))
             (closed (passed s e (e .task)) true) c (next-state from es e ∙ ap (λ (y : Applied). y .state) q)
-            (x .within) k (is-open (passed s e (e .task)) (e .job) o .0) refl
+            (x .limited) k (is-open (passed s e (e .task)) (e .job) (job-open (passed s e (e .task)) e o) .0) refl
 
   pub steady : (es : List Event) → Premise from es → Holds (momentAt from es (runState from es .clock))
   unfolding Premise

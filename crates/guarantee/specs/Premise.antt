@@ -5,6 +5,7 @@ use mathlib.Core.Path.{_≡_}
 use mathlib.Core.Bool.{true}
 use mathlib.Core.List.{List, [], _∷_}
 use Rattle.event_reading.specs.declared.Event.{Event}
+use Rattle.event_reading.specs.Event.{aRelease}
 use Rattle.state_rules.specs.declared.State.{State}
 use Rattle.run_histories.specs.History.{runRecord, isAccepted}
 use Rattle.guarantee.specs.ChosenTime.{openTime}
@@ -12,7 +13,7 @@ use Rattle.guarantee.specs.ChosenTime.{openTime}
 -- what an accepted event owes to an open job whose chosen time has reached C at x
 pub record Waits (e : Event) (x : ℕ) : Type 0 where
   pub not-after : e .time ≤ x
-  pub no-release : e .kind ≡ 1 → e .time < x
+  pub no-release : e .kind ≡ aRelease → e .time < x
 
 abbrev pub Timely : State → List Event → Event → Type 0
 Timely s es e =

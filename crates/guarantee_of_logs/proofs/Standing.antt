@@ -22,7 +22,7 @@ use Rattle.apply_events.specs.Apply.{applied}
 use Rattle.apply_events.specs.Log.{stateAfter}
 use Rattle.apply_events.proofs.After.{after-sound}
 use Rattle.run_histories.specs.History.{accepts}
-use Rattle.run_histories.proofs.Taken.{Took, refusal, tick, release, completion, took}
+use Rattle.apply_events.proofs.Happened.{Happened, refusal, acceptance, happened}
 use Rattle.rig_codes.proofs.Starts.{begins-sound, begins-idle}
 use Rattle.guarantee_of_logs.specs.Places.{eventAt, afterFirst}
 use Rattle.guarantee_of_logs.specs.ChosenTime.{standingAt, StandsLast}
@@ -73,13 +73,11 @@ module _ (s : State) (es : List Event) (start : s .clock ≡ 0) (y : ℕ) where
 -- ---- what stands, by the answers of the C function
 
 pub accepted-clock : (s : State) (e : Event) → StateSound s → accepts (applied s e .answer) ≡ true → applied s e .state .clock ≡ e .time
-accepted-clock s e g = go (took s e g)
+accepted-clock s e g = go (happened s e)
   where
-    go : {a : Applied} → Took s e a → accepts (a .answer) ≡ true → a .state .clock ≡ e .time
-    go (refusal n) q = absurd (true-not-false (sym q))
-    go (tick t k) q = refl
-    go (release t k h o) q = refl
-    go (completion t k h o) q = refl
+    go : {a : Applied} → Happened s e a → accepts (a .answer) ≡ true → a .state .clock ≡ e .time
+    go (refusal n z v) q = absurd (true-not-false (sym q))
+    go (acceptance h c o) q = refl
 
 module _ (s : State) (es : List Event) (y : ℕ) where
   -- a state that is tried again changes nothing

@@ -5,11 +5,11 @@ use mathlib.Core.Path.{_≡_, refl, sym, ap, subst, _∙_}
 use mathlib.Core.Bool.{Bool, true, false, cond}
 use mathlib.Core.List.{List}
 use mathlib.Core.Logic.{_↔_}
-use native.Mathlib.Decide.{decLe, ℕ-discrete}
+use native.Mathlib.Decide.{decLe}
 use native.Mathlib.Omega.{arith}
 use borrow.Author.Tests.{le-leb, lt-leb, eq-eqb, ne-eqb}
 use lib.Dec.{eqb, leb}
-use lib.ListN.{length, getD, set}
+use lib.ListN.{length}
 use Rattle.laws.specs.Numbers.{oneIf}
 use Rattle.laws.proofs.Sums.{total-same}
 use Rattle.laws.proofs.Tests.{same-test, cond-same}
@@ -22,19 +22,21 @@ use Rattle.table_reading.proofs.Given.{read-good}
 use Rattle.event_logs.specs.Log.{eventsOf}
 use Rattle.task_records.specs.declared.Record.{Record}
 use Rattle.task_records.specs.Closing.{closed}
-use Rattle.task_steps.specs.Opening.{opened, noRecord}
+use Rattle.task_steps.specs.Opening.{opened}
 use Rattle.task_steps.specs.Own.{reopened}
+use Rattle.task_steps.proofs.OwnSteps.{Step, tick, release, completion}
 use Rattle.state_rules.specs.declared.State.{State}
 use Rattle.state_rules.specs.State.{recordAt, freshState}
 use Rattle.state_rules.specs.Sound.{StateSound}
 use Rattle.state_rules.specs.Choice.{chosen}
 use Rattle.apply_events.specs.declared.Applied.{Applied}
-use Rattle.apply_events.specs.Steps.{expiredAll}
 use Rattle.apply_events.specs.Apply.{applied}
+use Rattle.apply_events.proofs.Happened.{Happened, refusal, acceptance, happened}
+use Rattle.apply_events.proofs.Places.{places, stored-place}
 use Rattle.apply_events.specs.Log.{stateAfter}
 use Rattle.run_histories.proofs.Steps.{closed-same, cleared-same, expired-same}
-use Rattle.run_histories.proofs.Taken.{passed, Took, refusal, tick, release, completion, took, refused-leaves, all-passed, set-there, set-elsewhere}
-use Rattle.run_histories.proofs.Reached.{Reached, room-for, reached}
+use Rattle.run_histories.proofs.Taken.{passed, refused-leaves}
+use Rattle.run_histories.proofs.Reached.{Reached, reached}
 use Rattle.guarantee.specs.ChosenTime.{isChoice}
 use Rattle.rig_codes.proofs.Starts.{begins-sound}
 use Rattle.guarantee_of_logs.specs.Places.{eventAt, afterFirst, recordAfter, acceptedAt}
@@ -52,7 +54,7 @@ use Rattle.guarantee_of_logs.proofs.Theorem.{guarantee-of-logs}
 
 -- ---- what an event does to a task's last release and its number
 
-module _ (q : State) (e : Event) (g : StateSound q) (room : q .count ≤ length (q .records)) (i : ℕ) (h : i < q .count) where
+module _ (q : State) (e : Event) (g : StateSound q) (i : ℕ) (h : i < q .count) where
   data Numbers (r : Record) : Type 0 where
     stays : r .last ≡ recordAt q i .last → r .released ≡ recordAt q i .released → Numbers r
     rises : r .last ≡ e .time → r .released ≡ suc (recordAt q i .released) → Numbers r
@@ -74,23 +76,17 @@ module _ (q : State) (e : Event) (g : StateSound q) (room : q .count ≤ length 
       stays (c .last ∙ p .last) (c .released ∙ p .released)
 
   numbers : Numbers (recordAt (applied q e .state) i)
-  numbers = go (took q e g)
+  numbers = go (happened q e)
     where
-      -- the event's own task, or another
-      own : (r : Record) → e .task < q .count → (i ≡ e .task → Numbers r) → Dec (i ≡ e .task)
-          → Numbers (getD (set (expiredAll q (e .time)) (e .task) r) i noRecord)
-      own r c f (yes z) =
-          subst Numbers (sym (ap (λ (j : ℕ). getD (set (expiredAll q (e .time)) (e .task) r) j noRecord) z ∙ set-there q e room r c)) (f z)
-      own r c f (no z) = subst Numbers (sym (set-elsewhere q e room r i h z)) passing
+      own : {x : Record} → Step (passed q e i) e x → Numbers x
+      own (tick k) = passing
+      own (release k f) = releasing
+      own (completion k f) = completing
 
-      go : {a : Applied} → Took q e a → Numbers (recordAt (a .state) i)
-      go (refusal n) = stays refl refl
-      go (tick t k) = subst Numbers (sym (all-passed q e room i h)) passing
-      go (release t k c o) =
-          own (reopened (passed q e (e .task)) (e .time)) c (λ z. subst (λ (j : ℕ). Numbers (reopened (passed q e j) (e .time))) z releasing)
-          (ℕ-discrete i (e .task))
-      go (completion t k c o) =
-          own (closed (passed q e (e .task)) true) c (λ z. subst (λ (j : ℕ). Numbers (closed (passed q e j) true)) z completing) (ℕ-discrete i (e .task))
+      go : {a : Applied} → Happened q e a → Numbers (recordAt (a .state) i)
+      go (refusal n z v) = stays refl refl
+      go (acceptance {x} t c o) =
+          stored-place q (e .time) (e .task) x Numbers (places q g) c i h (λ z. own (subst (λ (j : ℕ). Step (passed q e j) e x) (sym z) o)) (λ z. passing)
 
 -- ---- the number in the state that stands at tick y
 
@@ -117,10 +113,10 @@ module _ (t : Table) (good : judged t ≡ Accepted) (es : List Event) (i : ℕ) 
     below = rw (come n .count) h
 
     abbrev Number : Record → Type 0
-    Number r = Numbers here (eventAt es n) (come n .sound) (room-for t good here (come n)) i below r
+    Number r = Numbers here (eventAt es n) (come n .sound) i below r
 
     number : Number (recordAfter s es (suc n) i)
-    number = rw (after-more s es n l) (numbers here (eventAt es n) (come n .sound) (room-for t good here (come n)) i below)
+    number = rw (after-more s es n l) (numbers here (eventAt es n) (come n .sound) i below)
 
     -- the clock has passed the tick: the states before decide
     earlier : afterFirst s es (suc n) .clock ≡ eventAt es n .time → y < afterFirst s es (suc n) .clock → Told (suc n) (standingAt s es n y)

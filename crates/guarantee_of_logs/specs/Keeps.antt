@@ -5,6 +5,7 @@ use mathlib.Core.Bool.{Bool, true, cond}
 use mathlib.Core.List.{List, [], _∷_, _++_}
 use lib.ListN.{length}
 use Rattle.event_reading.specs.declared.Event.{Event}
+use Rattle.event_reading.specs.Event.{aCompletion}
 use Rattle.table_rules.specs.declared.Task.{Task}
 use Rattle.table_rules.specs.declared.Table.{Table}
 use Rattle.task_records.specs.declared.Record.{Record}
@@ -27,7 +28,7 @@ outcomesTo s es i (suc n) = outcomesTo s es i n ++ cond (closesAt s es i n) (com
 
 -- the event is the completion of the open job of task i, at most the bound after its release
 pub record MetBy (bound : ℕ) (r : Record) (i : ℕ) (e : Event) : Type 0 where
-  pub completion : e .kind ≡ 2
+  pub completion : e .kind ≡ aCompletion
   pub task : e .task ≡ i
   pub job : e .job ≡ r .released
   pub soon : e .time ≤ r .last + bound

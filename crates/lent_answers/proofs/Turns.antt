@@ -8,7 +8,7 @@ use native.Mathlib.Omega.{arith}
 use borrow.Author.Tests.{eqb-true, eqb-false}
 use lib.Dec.{T, eqb}
 use lib.ListN.{length, getD, set, length-set}
-use Rattle.laws.proofs.Tests.{tells-true, test-held, test-failed}
+use Rattle.laws.proofs.Tests.{test-held, test-failed}
 use Rattle.event_reading.specs.declared.Event.{Event}
 use Rattle.task_records.specs.declared.Record.{Record}
 use Rattle.task_steps.specs.Opening.{noRecord}
@@ -23,10 +23,11 @@ use Rattle.apply_events.specs.declared.Answer.the-variants.{Refused}
 use Rattle.apply_events.specs.declared.Applied.{Applied}
 use Rattle.apply_ruling.specs.declared.Ruling.{Ruling}
 use Rattle.apply_events.specs.Steps.{expiredAll}
-use Rattle.apply_events.specs.Apply.{toldOf, answerOf, moved, refused, acted, applied}
+use Rattle.apply_events.specs.Apply.{toldOf, answerOf, moved, refused, applied}
 use Rattle.apply_ruling.specs.Ruling.{ruled}
 use Rattle.apply_events.proofs.Frame.{refused-stays}
-use Rattle.apply_engine.proofs.Rulings.{Accepts, refused-by, accepted-by, decided}
+use Rattle.apply_events.proofs.Happened.{unsound-is}
+use Rattle.apply_engine.proofs.Rulings.{seatRuled, Accepts, refused-by, accepted-by}
 use Rattle.apply_engine.proofs.Settled.{settledTo, stored-first}
 use Rattle.lent_answers.specs.declared.Turn.{Turn}
 use Rattle.lent_records.specs.Row.{stateOf}
@@ -71,9 +72,9 @@ module _ (l : List Record) (c : ℕ) (e : Event) where
   turn-refused f = go (stateHolds s) refl f
     where
       go : (b : Bool) → stateHolds s ≡ b → (cond b (ruled c (length l) (getD l (seatIn l e) noRecord) e) unsound .refusal ≡ 0 → ⊥)
-          → cond b (acted s e) (refused s 15) ≡ refused s (cond b (ruled c (length l) (getD l (seatIn l e) noRecord) e) unsound .refusal)
-      go true h g = refused-by s e (decided s e (state-tells s .holds h)) g
-      go false h g = refl
+          → applied s e ≡ refused s (cond b (ruled c (length l) (getD l (seatIn l e) noRecord) e) unsound .refusal)
+      go true h g = refused-by s e (state-tells s .holds h) (seatRuled s e) refl g
+      go false h g = unsound-is s e (state-tells s .fails h)
 
   -- accepted: what is needed to settle the row, and what it comes to
   pub record Settles (x : Record) : Type 0 where
@@ -83,9 +84,9 @@ module _ (l : List Record) (c : ℕ) (e : Event) where
   abbrev k : ℕ
   k = seatIn l e
 
-  settled-row : (x : Record) → StateSound s → Accepts s e k (acted s e) (record { refusal = 0; after = x }) → Settles x
-  unfolding applied
-  settled-row x p a =
+  settled-row : (u : Ruling) → StateSound s → Accepts s e u → Settles (u .after)
+  settled-row u p a =
+      let x = u .after in
       let rows : settledRow l e x ≡ set (settledTo l (e .time) (length l)) k x =
       ap (settledTo (storedRow l e x) (e .time)) (length-set l k x) ∙ stored-first l (e .time) (length l) k x (le-refl (length l)) (a .below) (a .prompt) in
       let long : length (settledRow l e x) ≡ length l = row-expired (storedRow l e x) (e .time) .long ∙ length-set l k x in
@@ -94,7 +95,7 @@ module _ (l : List Record) (c : ℕ) (e : Event) where
       ap (λ (m : ℕ). toldOf (bestTo (settledRow l e x) m) (getD (settledRow l e x) (bestTo (settledRow l e x) m .at) noRecord .class)) all in
       record {
         some = sound-some p;
-        same = rw (tells-true (state-tells s) p, a .same, ← rows, told);
+        same = rw (a .same, ← rows, told);
       }
 
   pub turn-accepted : q .refusal ≡ 0 → Settles (q .after)
@@ -103,9 +104,8 @@ module _ (l : List Record) (c : ℕ) (e : Event) where
       go : (b : Bool) → stateHolds s ≡ b → cond b (ruled c (length l) (getD l (seatIn l e) noRecord) e) unsound .refusal ≡ 0
           → Settles (cond b (ruled c (length l) (getD l (seatIn l e) noRecord) e) unsound .after)
       go true h f =
-          let a = accepted-by s e (decided s e (state-tells s .holds h)) f in
-          settled-row (ruled c (length l) (getD l (seatIn l e) noRecord) e .after) (state-tells s .holds h)
-          (record { below = a .below; prompt = a .prompt; same = a .same })
+          let p = state-tells s .holds h in
+          settled-row (seatRuled s e) p (accepted-by s e p (seatRuled s e) refl f)
       go false h f = absurd (omega (arith, f))
 
 -- ---- as the walks cite it: a test of the code is a Bool b with T b or T (not b)

@@ -8,8 +8,8 @@ use apply_ruling::judging::seat;
 use event_reading::Event;
 use state_choice::Best;
 use state_rules::State;
-use table_rules::Task;
 use task_records::Record;
+use task_steps::opening::no_record;
 ghost use mathlib.Core.Path.{_≡_};
 ghost use Rattle.apply_events.specs.Apply.{toldOf};
 ghost use Rattle.apply_ruling.specs.Ruling.{seatOf};
@@ -33,27 +33,10 @@ pub fn told_of(best: Best, of: Record) -> Answer
 pub fn unsound_ruling() -> Ruling
     ensures { λ r. ⌜ r ≡ unsound ⌝ }
 {
+    let none = no_record();
     Ruling {
         refusal: 15,
-        after: Record {
-            task: Task {
-                c: 0,
-                d: 0,
-                t: 0,
-                m: 0,
-                k: 0,
-            },
-            level: 0,
-            run: 0,
-            live: false,
-            class: 0,
-            last: 0,
-            released: 0,
-            met: 0,
-            missed: 0,
-            marks: 0,
-            broken: 0,
-        },
+        after: none,
     }
 }
 

@@ -25,15 +25,16 @@ use Rattle.apply_events.specs.declared.Answer.{Answer}
 use Rattle.apply_events.specs.declared.Applied.{Applied}
 use Rattle.apply_ruling.specs.declared.Ruling.{Ruling}
 use Rattle.apply_events.specs.Steps.{expiredAll}
-use Rattle.apply_events.specs.Apply.{toldOf, answerOf, moved, accepted, refused, acted, applied}
+use Rattle.apply_events.specs.Apply.{toldOf, answerOf, moved, accepted, refused, applied}
 use Rattle.apply_ruling.specs.Ruling.{seatOf, ruled}
 use Rattle.apply_events.proofs.Frame.{count-stays}
-use Rattle.apply_engine.proofs.Rulings.{Decides, refused-by, accepted-by, decided}
+use Rattle.apply_events.proofs.Happened.{unsound-is}
+use Rattle.apply_engine.proofs.Rulings.{seatRuled, refused-by, accepted-by}
 use Rattle.lent_answers.specs.declared.Turn.{Turn}
 use Rattle.lent_records.specs.Row.{stateOf, rowOf}
 use Rattle.lent_answers.specs.Turns.{placedBy}
 use Rattle.lent_records.proofs.Choices.{best-front}
-use Rattle.apply_ruling.proofs.Prompt.{seat-below}
+use Rattle.apply_ruling.proofs.Seats.{seat-below}
 use Rattle.lent_answers.proofs.Turns.{TurnSays}
 
 each-front : (l : List Record) (c n k : ℕ) → k ≤ n → eachHolds (take n l) c k ≡ eachHolds l c k
@@ -109,28 +110,29 @@ module _ (s : State) (e : Event) where
           rest = drop-set n k (expiredAll s t) x (seat-below (e .task) n some) ∙ drop-filled (λ i. expired (recordAt s i) t) l n n (le-refl n);
         }
 
-  acts-same : StateSound s → StateSound f → Same (acted f e) (acted s e)
-  acts-same p p′ =
-      let k = seatOf (e .task) n in
-      let some : 0 < n = omega (arith, p .counted .one) in
-      let q : Ruling = ruled (s .clock) n (recordAt s k) e in
-      let d : Decides s e k (acted s e) q = decided s e p in
-      let d′ : Decides f e k (acted f e) q =
-      subst (λ (r : Record). Decides f e k (acted f e) (ruled (s .clock) n r e)) (below k (seat-below (e .task) n some)) (decided f e p′) in
-      go some q d d′ (ℕ-discrete (q .refusal) 0)
+  -- on sound states both are ruled alike
+  sound-same : StateSound s → StateSound f → Same (applied f e) (applied s e)
+  sound-same p p′ = go (ℕ-discrete (q .refusal) 0)
     where
-      go : 0 < n → (q : Ruling) → Decides s e (seatOf (e .task) n) (acted s e) q → Decides f e (seatOf (e .task) n) (acted f e) q → Dec (q .refusal ≡ 0)
-          → Same (acted f e) (acted s e)
-      go some q d d′ (yes z) = rw (accepted-by s e d z .same, accepted-by f e d′ z .same) (accepts-same some (q .after))
-      go some q d d′ (no z) = rw (refused-by s e d z, refused-by f e d′ z) (as-given (q .refusal))
+      q : Ruling
+      q = seatRuled s e
+
+      some : 0 < n
+      some = omega (arith, p .counted .one)
+
+      alike : q ≡ seatRuled f e
+      alike = ap (λ (r : Record). ruled (s .clock) n r e) (sym (below (seatOf (e .task) n) (seat-below (e .task) n some)))
+
+      go : Dec (q .refusal ≡ 0) → Same (applied f e) (applied s e)
+      go (yes z) = rw (accepted-by s e p q refl z .same, accepted-by f e p′ q alike z .same) (accepts-same some (q .after))
+      go (no z) = rw (refused-by s e p q refl z, refused-by f e p′ q alike z) (as-given (q .refusal))
 
   same : Same (applied f e) (applied s e)
-  unfolding applied
   same = go (stateHolds s) refl
     where
       go : (b : Bool) → stateHolds s ≡ b → Same (applied f e) (applied s e)
-      go true h = rw (holds-same, h) (acts-same (state-tells s .holds h) (state-tells f .holds (holds-same ∙ h)))
-      go false h = rw (holds-same, h) (as-given 15)
+      go true h = sound-same (state-tells s .holds h) (state-tells f .holds (holds-same ∙ h))
+      go false h = rw (unsound-is s e (state-tells s .fails h), unsound-is f e (state-tells f .fails (holds-same ∙ h))) (as-given 15)
 
   -- a state with a place for each task: the event over its row of tasks
   pub in-place : n ≤ length l → Same (applied (stateOf (rowOf s) (s .clock)) e) (applied s e)

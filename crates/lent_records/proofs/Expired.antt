@@ -1,5 +1,5 @@
 -- Step 1 over a lent row leaves each record as it was or closed, as its own deadline says: a record that is not yet passed is the one that was lent.
-use Prim.Native.Nat.{ℕ, _+_, _<_}
+use Prim.Native.Nat.{ℕ, _+_}
 use mathlib.Core.Path.{_≡_, refl, sym, ap, _∙_}
 use mathlib.Core.List.{List}
 use native.Mathlib.Nat.{le-refl}

@@ -7,7 +7,7 @@ use native.Mathlib.Decide.{ℕ-discrete}
 use native.Mathlib.Omega.{arith}
 use borrow.Author.Tests.{eq-eqb, ne-eqb, lt-ltb}
 use lib.Count.{ones-le}
-use lib.Dec.{eqb, leb, ltb}
+use lib.Dec.{eqb, ltb}
 use lib.ListN.{length, replicate}
 use Rattle.laws.proofs.Numbers.{ceiling-small}
 use Rattle.laws.proofs.Stores.{filled-below}
@@ -35,10 +35,10 @@ use Rattle.bound_one.specs.declared.Bound.{Bound}
 use Rattle.bound_one.specs.declared.Bound.the-variants as Bound
 use Rattle.bound_one.specs.Asked.{orThirteen, oneAnswer}
 use Rattle.event_reading.specs.declared.Event.{Event}
-use Rattle.event_reading.specs.Event.{zeroes, faultOf}
+use Rattle.event_reading.specs.Event.{lastKind, zeroes, faultOf}
 use Rattle.task_levels.proofs.Needs.{level-told}
 use Rattle.task_records.specs.declared.Record.{Record}
-use Rattle.task_steps.specs.Opening.{fresh, expired, noRecord}
+use Rattle.task_steps.specs.Opening.{fresh, noRecord}
 use Rattle.task_records.specs.Window.{windowOf}
 use Rattle.task_soundness.specs.Counts.{openOf}
 use Rattle.task_soundness.specs.Sound.{Sound}
@@ -46,7 +46,7 @@ use Rattle.task_soundness.proofs.Kept.{fresh-sound}
 use Rattle.state_choice.specs.declared.Best.{Best}
 use Rattle.state_rules.specs.declared.State.{State}
 use Rattle.state_choice.specs.Choice.{bestTo}
-use Rattle.state_rules.specs.Sound.{limit, StateSound, stateHolds}
+use Rattle.state_rules.specs.Sound.{limit, StateSound}
 use Rattle.state_rules.specs.State.{freshState}
 use Rattle.state_choice.specs.Least as Least
 use Rattle.state_choice.proofs.Least.{best-is}
@@ -54,8 +54,9 @@ use Rattle.apply_events.specs.declared.Answer.the-variants as Said
 use Rattle.state_rules.specs.State.{recordAt as recordOf}
 use Rattle.apply_events.specs.declared.Answer.{Answer as Said}
 use Rattle.apply_events.specs.declared.Applied.{Applied}
-use Rattle.apply_events.specs.Apply.{answerOf, ticked, releasedAt, completedAt, byKind, timed, acted, applied}
-use Rattle.task_steps.specs.Own.{tooSoon, isOpen}
+use Rattle.apply_events.specs.Apply.{answerOf, applied}
+use Rattle.apply_events.specs.Verdict.{Verdict, unsound, unruled, untimely, no-task, too-soon, no-job, ticks, releases, completes}
+use Rattle.apply_events.proofs.Happened.{Happened, refusal, acceptance, happened}
 use Rattle.apply_events.proofs.Kept.{applied-sound}
 
 -- ---- the table's refusal
@@ -130,42 +131,27 @@ module _ (s : State) (sound : StateSound s) where
           (omega (arith, f .below), class-small (recordOf s p) (s .clock) (sound .each p (omega (arith, f .below))) (f .live))
       go b (Least.nothing f) = tt
 
-module _ (s : State) (e : Event) where
-  -- whatever is answered, where the state beside it is sound
-  abbrev Fair : Applied → Type 0
-  Fair a = StateSound (a .state) → Small (a .answer)
+-- a row's number is 7 to 12 or 15, or 0
+row-small : (s : State) (e : Event) {n : ℕ} → Verdict s e n → n < 100
+unfolding faultOf
+row-small s e (unsound q) = omega arith
+row-small s e (unruled p q) =
+    by-test (λ (n : ℕ). n < 100) (ltb lastKind (e .kind)) 7 (cond (zeroes e) 0 8) (λ z. omega arith)
+    (λ z. by-test (λ (n : ℕ). n < 100) (zeroes e) 0 8 (λ f. omega arith) (λ f. omega arith))
+row-small s e (untimely p z q) = omega arith
+row-small s e (no-task h k c) = omega arith
+row-small s e (too-soon h k c f) = omega arith
+row-small s e (no-job h k r c f) = omega arith
+row-small s e (ticks h k) = omega arith
+row-small s e (releases h k c f) = omega arith
+row-small s e (completes h k r c f) = omega arith
 
-  -- the record of the event's task after step 1
-  abbrev after-1 : Record
-  after-1 = expired (recordOf s (e .task)) (e .time)
-
-  kind-fair : Fair (byKind s e)
-  unfolding byKind ticked releasedAt completedAt
-  kind-fair =
-      by-test Fair (eqb (e .kind) 0) _ _ (λ q. answer-small _)
-      (λ q.
-      by-test Fair (eqb (e .kind) 1) _ _
-      (λ f. by-test Fair (leb (s .count) (e .task)) _ _ (λ x y. omega arith)
-      (λ x. by-test Fair (tooSoon after-1 (e .time)) _ _ (λ z y. omega arith) (λ z. answer-small _)))
-      (λ f. by-test Fair (leb (s .count) (e .task)) _ _ (λ x y. omega arith)
-      (λ x. by-test Fair (isOpen after-1 (e .job)) _ _ (λ z. answer-small _) (λ z y. omega arith))))
-
-  acted-fair : Fair (acted s e)
-  unfolding acted timed faultOf
-  acted-fair =
-      by-test (λ (n : ℕ). Fair (cond (eqb n 0) (timed s e) (record { answer = Said.Refused n; state = s }))) (ltb 2 (e .kind)) 7 (cond (zeroes e) 0 8)
-      (λ q y. omega arith)
-      (λ q. by-test (λ (n : ℕ). Fair (cond (eqb n 0) (timed s e) (record { answer = Said.Refused n; state = s }))) (zeroes e) 0 8
-      (λ z. timed-fair) (λ z y. omega arith))
-    where
-      timed-fair : Fair (timed s e)
-      timed-fair =
-          by-test Fair (ltb limit (e .time)) _ _ (λ x y. omega arith) (λ x. by-test Fair (ltb (e .time) (s .clock)) _ _ (λ z y. omega arith) (λ z. kind-fair))
-
-  pub applied-small : StateSound s → Small (applied s e .answer)
-  unfolding applied
-  applied-small p =
-      by-test Fair (stateHolds s) (acted s e) (record { answer = Said.Refused 15; state = s }) (λ q. acted-fair) (λ q y. omega arith) (applied-sound s p e)
+pub applied-small : (s : State) (e : Event) → StateSound s → Small (applied s e .answer)
+applied-small s e p = go (happened s e) (applied-sound s p e)
+  where
+    go : {a : Applied} → Happened s e a → StateSound (a .state) → Small (a .answer)
+    go (refusal n z v) g = row-small s e v
+    go {a} (acceptance h c o) g = answer-small (a .state) g
 
 -- ---- what a sound record holds
 

@@ -5,20 +5,15 @@ use mathlib.Core.Path.{_≡_, refl, subst, _∙_}
 use mathlib.Core.Bool.{true}
 use mathlib.Core.List.{List, [], _∷_}
 use native.Mathlib.Omega.{arith}
-use borrow.Author.Tests.{eq-eqb}
-use lib.Dec.{eqb, leb, ltb, lit<}
-use lib.ListN.{set}
+use lib.Dec.{lit<}
 use Rattle.laws.proofs.Tests.{by-test, tells-true}
 use Rattle.event_reading.specs.declared.Event.{Event}
 use Rattle.event_reading.specs.Event.{faultOf}
 use Rattle.event_logs.specs.Log.{eventsIn, eventsOf}
 use Rattle.event_reading.proofs.Rules.{judge-0}
 use Rattle.event_logs.proofs.Records.{by-records}
-use Rattle.task_records.specs.Closing.{closed}
-use Rattle.task_steps.specs.Opening.{expired}
 use Rattle.state_rules.specs.declared.State.{State}
-use Rattle.state_rules.specs.State.{recordAt}
-use Rattle.state_rules.specs.Sound.{limit, StateSound, stateHolds}
+use Rattle.state_rules.specs.Sound.{StateSound, stateHolds}
 use Rattle.state_rules.specs.Choice.{chosen}
 use Rattle.state_choice.proofs.Least.{found-below}
 use Rattle.state_rules.proofs.Sounding.{state-tells}
@@ -26,10 +21,10 @@ use Rattle.apply_events.specs.declared.Answer.{Answer}
 use Rattle.apply_events.specs.declared.Answer.the-variants as A
 use Rattle.apply_events.specs.declared.Applied.{Applied}
 use Rattle.apply_events.specs.declared.Ran.{Ran}
-use Rattle.task_steps.specs.Own.{tooSoon, reopened, isOpen}
-use Rattle.apply_events.specs.Steps.{expiredAll}
-use Rattle.apply_events.specs.Apply.{answerOf, moved, ticked, releasedAt, completedAt, byKind, timed, acted, applied}
+use Rattle.apply_events.specs.Apply.{answerOf, applied}
+use Rattle.apply_events.specs.Verdict.{Verdict, unsound, unruled, untimely, no-task, too-soon, no-job, ticks, releases, completes}
 use Rattle.apply_events.specs.Log.{standing, ranOver, ran}
+use Rattle.apply_events.proofs.Happened.{Happened, refusal, acceptance, happened}
 use Rattle.apply_events.proofs.Frame.{count-stays}
 use Rattle.apply_events.proofs.Kept.{applied-sound}
 use Rattle.rig_codes.specs.Code.{codeFor, ofAnswer, InRun}
@@ -40,34 +35,24 @@ answer-said s =
 
 -- ---- one event
 
-module _ (s : State) (e : Event) where
-  Fine : Applied → Type 0
-  Fine a = InRun (s .count) (a .answer)
+-- 7, 8 and 15 are out, so the row is one of 9 to 12
+row-said : (s : State) (e : Event) → StateSound s → faultOf e ≡ 0 → {n : ℕ} → Verdict s e n → (n ≡ 0 → ⊥) → InRun (s .count) (A.Refused n)
+row-said s e p z (unsound q) k = absurd (q p)
+row-said s e p z (unruled g q) k = absurd (q z)
+row-said s e p z (untimely g q t) k = omega arith
+row-said s e p z (no-task h q c) k = omega arith
+row-said s e p z (too-soon h q c f) k = omega arith
+row-said s e p z (no-job h q r c f) k = omega arith
+row-said s e p z (ticks h q) k = absurd (k refl)
+row-said s e p z (releases h q c f) k = absurd (k refl)
+row-said s e p z (completes h q r c f) k = absurd (k refl)
 
-  kind-said : InRun (s .count) (byKind s e .answer)
-  unfolding byKind ticked releasedAt completedAt Fine
-  kind-said =
-      let one = expired (recordAt s (e .task)) (e .time) in
-      let l = expiredAll s (e .time) in
-      by-test Fine (eqb (e .kind) 0) _ _ (λ q. answer-said (moved s (e .time) l))
-      (λ q.
-      by-test Fine (eqb (e .kind) 1) _ _
-      (λ r.
-      by-test Fine (leb (s .count) (e .task)) _ _ (λ b. omega arith)
-      (λ b.
-      by-test Fine (tooSoon one (e .time)) _ _ (λ f. omega arith)
-      (λ f. answer-said (moved s (e .time) (set l (e .task) (reopened one (e .time)))))))
-      (λ r.
-      by-test Fine (leb (s .count) (e .task)) _ _ (λ b. omega arith)
-      (λ b.
-      by-test Fine (isOpen one (e .job)) _ _ (λ f. answer-said (moved s (e .time) (set l (e .task) (closed one true)))) (λ f. omega arith))))
-
-  applied-said : StateSound s → faultOf e ≡ 0 → InRun (s .count) (applied s e .answer)
-  unfolding applied acted timed Fine
-  applied-said p z =
-      rw (tells-true (state-tells s) p, eq-eqb (faultOf e) 0 z)
-      (by-test Fine (ltb limit (e .time)) _ _ (λ a. omega arith)
-      (λ a. by-test Fine (ltb (e .time) (s .clock)) _ _ (λ b. omega arith) (λ b. kind-said)))
+applied-said : (s : State) (e : Event) → StateSound s → faultOf e ≡ 0 → InRun (s .count) (applied s e .answer)
+applied-said s e p z = go (happened s e)
+  where
+    go : {a : Applied} → Happened s e a → InRun (s .count) (a .answer)
+    go (refusal n k v) = row-said s e p z v k
+    go {a} (acceptance h c o) = answer-said (a .state)
 
 -- ---- the events of a log
 

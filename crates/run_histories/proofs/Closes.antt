@@ -5,9 +5,10 @@ use mathlib.Core.Bool.{Bool, true, false, cond}
 use mathlib.Core.List.{List, _∷_}
 use borrow.Author.Tests.{eq-eqb, ne-eqb}
 use lib.Dec.{eqb}
+use Rattle.laws.proofs.Tests.{cond-same}
 use Rattle.event_reading.specs.declared.Event.{Event}
 use Rattle.task_records.specs.declared.Record.{Record}
-use Rattle.run_histories.specs.History.{Job, closes, completes, closedJob}
+use Rattle.run_histories.specs.History.{Job, closes, closedJob}
 
 -- the closed jobs of task i after an event
 abbrev pub jobsWith : Record → Record → Event → ℕ → List Job → List Job
@@ -29,11 +30,7 @@ pub closes-idle : (r q : Record) → r .live ≡ true → q .live ≡ false → 
 closes-idle r q l o = rw (l, o)
 
 pub closes-next : (r q : Record) → r .live ≡ true → (q .released ≡ r .released → ⊥) → closes r q ≡ true
-closes-next r q l n = rw (l, ne-eqb (q .released) (r .released) n) (go (q .live))
-  where
-    go : (b : Bool) → cond b true true ≡ true
-    go true = refl
-    go false = refl
+closes-next r q l n = rw (l, ne-eqb (q .released) (r .released) n) (cond-same (q .live) true)
 
 -- an event of another kind, or of another task, completes no job of task i, and releases none
 module _ (kind : ℕ) (e : Event) (i : ℕ) where
@@ -44,11 +41,7 @@ module _ (kind : ℕ) (e : Event) (i : ℕ) where
   other-kind n = rw (ne-eqb (e .kind) kind n)
 
   pub other-task : (i ≡ e .task → ⊥) → isOf ≡ false
-  other-task n = rw (ne-eqb (e .task) i (λ z. n (sym z))) (go (eqb (e .kind) kind))
-    where
-      go : (b : Bool) → cond b false false ≡ false
-      go true = refl
-      go false = refl
+  other-task n = rw (ne-eqb (e .task) i (λ z. n (sym z))) (cond-same (eqb (e .kind) kind) false)
 
   pub own-task : e .kind ≡ kind → i ≡ e .task → isOf ≡ true
   own-task k z = rw (eq-eqb (e .kind) kind k, eq-eqb (e .task) i (sym z))

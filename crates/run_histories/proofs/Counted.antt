@@ -1,18 +1,19 @@
 -- A record's counts are those of the run's events: an event adds to `released` exactly if it is an accepted release of the task, and its job was met exactly if
 -- the event that closed it is an accepted completion. By what a record becomes, event by event.
-use Prim.Native.Nat.{ℕ, _+_, _≤_, _<_}
-use mathlib.Core.Path.{_≡_, refl, sym, ap, subst, _∙_}
+use Prim.Native.Nat.{ℕ, _+_, _<_}
+use mathlib.Core.Path.{_≡_, refl, ap, subst, _∙_}
 use mathlib.Core.Bool.{Bool, true, false, cond}
 use mathlib.Core.List.{List, [], _∷_}
 use native.Mathlib.Omega.{arith}
-use lib.ListN.{length}
 use Rattle.laws.specs.Numbers.{oneIf}
+use Rattle.laws.proofs.Tests.{cond-same}
 use Rattle.event_reading.specs.declared.Event.{Event}
 use Rattle.table_rules.specs.declared.Table.{Table}
 use Rattle.table_rules.specs.declared.Answer.the-variants.{Accepted}
 use Rattle.table_rules.specs.Judging.{judged}
 use Rattle.task_records.specs.declared.Record.{Record}
 use Rattle.task_records.specs.Closing.{closed}
+use Rattle.task_records.proofs.Steps.{closed-idle}
 use Rattle.task_steps.specs.Opening.{expired, opened}
 use Rattle.state_rules.specs.declared.State.{State}
 use Rattle.state_rules.specs.State.{recordAt, freshState}
@@ -23,19 +24,15 @@ use Rattle.task_steps.specs.Own.{reopened}
 use Rattle.apply_events.specs.Apply.{applied}
 use Rattle.run_histories.specs.History.{Job, runState, runRecord, accepts, closes, completes, releases, closedJob, jobsOf, outcomesOf}
 use Rattle.run_histories.specs.Counted.{releasesOf, completionsOf, lossesOf}
-use Rattle.run_histories.proofs.Steps.{closed-same, closed-idle, cleared, cleared-same, expired-same, expired-open}
+use Rattle.run_histories.proofs.Steps.{closed-same, cleared, cleared-same, expired-same, expired-open}
 use Rattle.run_histories.proofs.Closes.{closes-stays, closes-idle}
 use Rattle.run_histories.proofs.Taken.{passed, Becomes, same, passes, reopens, finishes, becomes}
-use Rattle.run_histories.proofs.Reached.{room-for, reached}
+use Rattle.run_histories.proofs.Reached.{reached}
 use Rattle.run_histories.proofs.Jobs.{tallied}
-
-never : (b : Bool) → cond b false false ≡ false
-never true = refl
-never false = refl
 
 -- ---- one event
 
-module _ (s : State) (e : Event) (g : StateSound s) (room : s .count ≤ length (s .records)) (i : ℕ) (h : i < s .count) where
+module _ (s : State) (e : Event) (g : StateSound s) (i : ℕ) (h : i < s .count) where
   abbrev r : Record
   r = recordAt s i
 
@@ -44,12 +41,12 @@ module _ (s : State) (e : Event) (g : StateSound s) (room : s .count ≤ length 
 
   one-released : q .released ≡ oneIf (cond (accepts (applied s e .answer)) (releases e i) false) + r .released
   unfolding opened
-  one-released = go (becomes s e room g i h)
+  one-released = go (becomes s e g i h)
     where
       more : (x : Record) → x .released ≡ r .released → opened x (e .time) .released ≡ 1 + r .released
       more x z = let p = g .each i h in omega (arith, z, p .spaced, p .past, g .clock)
 
-      go : {b : Bool} {x : Record} → Becomes s e room i b x → x .released ≡ oneIf (cond b (releases e i) false) + r .released
+      go : {b : Bool} {x : Record} → Becomes s e i b x → x .released ≡ oneIf (cond b (releases e i) false) + r .released
       go same = omega arith
       go (passes m o) = rw o (omega (arith, expired-same r (e .time) .released))
       go (reopens m o) =
@@ -58,12 +55,12 @@ module _ (s : State) (e : Event) (g : StateSound s) (room : s .count ≤ length 
 
   -- a job is met exactly where the event that closes it is an accepted completion of its task
   one-met : cond (closes r q) (completes e i) false ≡ cond (accepts (applied s e .answer)) (completes e i) false
-  one-met = go (becomes s e room g i h)
+  one-met = go (becomes s e g i h)
     where
-      go : {b : Bool} {x : Record} → Becomes s e room i b x → cond (closes r x) (completes e i) false ≡ cond b (completes e i) false
+      go : {b : Bool} {x : Record} → Becomes s e i b x → cond (closes r x) (completes e i) false ≡ cond b (completes e i) false
       go same = rw (closes-stays r)
-      go (passes m o) = rw m (never (closes r (passed s e i)))
-      go (reopens m o) = rw m (never (closes r (reopened (passed s e i) (e .time))))
+      go (passes m o) = rw m (cond-same (closes r (passed s e i)) false)
+      go (reopens m o) = rw m (cond-same (closes r (reopened (passed s e i) (e .time))) false)
       go (finishes m o l) =
           let live : r .live ≡ true = subst (λ (x : Record). x .live ≡ true) (expired-open r (e .time) l) l in
           rw (closes-idle r (closed (passed s e i) true) live (closed-idle (passed s e i) true))
@@ -99,7 +96,7 @@ module _ (t : Table) (good : judged t ≡ Accepted) where
   released-counted [] i h = rw (fresh-at t good i h)
   released-counted (e ∷ es) i h =
       let r = reached t good es in
-      one-released (runState from es) e (r .sound) (room-for t good (runState from es) r) i (rw (r .count) h)
+      one-released (runState from es) e (r .sound) i (rw (r .count) h)
       ∙ ap (λ (n : ℕ). oneIf (cond (accepts (applied (runState from es) e .answer)) (releases e i) false) + n) (released-counted es i h)
 
   met-jobs : (es : List Event) (i : ℕ) → i < t .count → mets (outcomesOf (jobsOf from es i)) ≡ completionsOf from es i
@@ -109,7 +106,7 @@ module _ (t : Table) (good : judged t ≡ Accepted) where
       let r = reached t good es in
       let s = runState from es in
       more-mets (closes (recordAt s i) (recordAt (applied s e .state) i)) (closedJob (recordAt s i) e i) (jobsOf from es i)
-      ∙ ap (λ (b : Bool). oneIf b + mets (outcomesOf (jobsOf from es i))) (one-met s e (r .sound) (room-for t good s r) i (rw (r .count) h))
+      ∙ ap (λ (b : Bool). oneIf b + mets (outcomesOf (jobsOf from es i))) (one-met s e (r .sound) i (rw (r .count) h))
       ∙ ap (λ (n : ℕ). oneIf (cond (accepts (applied s e .answer)) (completes e i) false) + n) (met-jobs es i h)
 
   -- `met` is the number of its accepted completions

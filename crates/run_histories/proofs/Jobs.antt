@@ -21,6 +21,7 @@ use Rattle.task_records.specs.declared.Record.{Record}
 use Rattle.task_records.specs.Closing.{closed}
 use Rattle.task_steps.specs.Opening.{expired, opened}
 use Rattle.task_records.specs.Window.{windowOf}
+use Rattle.task_records.proofs.Steps.{closed-idle}
 use Rattle.task_soundness.specs.Sound.{Sound}
 use Rattle.task_soundness.proofs.Kept.{end}
 use Rattle.state_rules.specs.declared.State.{State}
@@ -38,10 +39,10 @@ use Rattle.bound_demand.specs.Above.{taskAt}
 use Rattle.task_steps.specs.Own.{reopened}
 use Rattle.apply_events.specs.Apply.{applied}
 use Rattle.run_histories.specs.History.{Job, runState, runRecord, closes, closedJob, jobsOf, outcomesOf}
-use Rattle.run_histories.proofs.Steps.{closed-same, closed-idle, cleared, cleared-open, cleared-none, cleared-same, Expired, over, stays, expiry, expired-same, expired-open}
+use Rattle.run_histories.proofs.Steps.{closed-same, cleared, cleared-open, cleared-none, cleared-same, Expired, over, stays, expiry, expired-same, expired-open}
 use Rattle.run_histories.proofs.Closes.{jobsWith, closes-none, closes-stays, closes-idle, closes-next}
 use Rattle.run_histories.proofs.Taken.{passed, Becomes, same, passes, reopens, finishes, becomes}
-use Rattle.run_histories.proofs.Reached.{room-for, reached}
+use Rattle.run_histories.proofs.Reached.{reached}
 
 -- a new job has a number of its own
 later-number : (r : Record) (clock : ℕ) (e : Event) → Sound r clock → clock ≤ end → (q : Record) → q .released ≡ r .released
@@ -94,12 +95,12 @@ module _ (p : Task) (r : Record) (clock : ℕ) (e : Event) (i : ℕ) (jobs : Lis
       go (stays d) = by-live (r .live) refl
 
 -- one event, whatever it is
-module _ (s : State) (e : Event) (g : StateSound s) (room : s .count ≤ length (s .records)) (i : ℕ) (h : i < s .count) where
+module _ (s : State) (e : Event) (g : StateSound s) (i : ℕ) (h : i < s .count) where
   next-history : (p : Task) (jobs : List Job) → History p (outcomesOf jobs) (recordAt s i)
       → History p (outcomesOf (jobsWith (recordAt s i) (recordAt (applied s e .state) i) e i jobs)) (recordAt (applied s e .state) i)
-  next-history p jobs k = go (becomes s e room g i h)
+  next-history p jobs k = go (becomes s e g i h)
     where
-      go : {b : Bool} {q : Record} → Becomes s e room i b q → History p (outcomesOf (jobsWith (recordAt s i) q e i jobs)) q
+      go : {b : Bool} {q : Record} → Becomes s e i b q → History p (outcomesOf (jobsWith (recordAt s i) q e i jobs)) q
       go same = rw (closes-stays (recordAt s i)) k
       go (passes m o) = passed-kept p (recordAt s i) (s .clock) e i jobs k (g .each i h) (g .clock) m
       go (reopens m o) = reopened-kept p (recordAt s i) (s .clock) e i jobs k (g .each i h) (g .clock) m
@@ -107,9 +108,9 @@ module _ (s : State) (e : Event) (g : StateSound s) (room : s .count ≤ length 
 
   -- a job that stays open stays as it opened
   stays-open : recordAt s i .live ≡ true → closes (recordAt s i) (recordAt (applied s e .state) i) ≡ false → recordAt (applied s e .state) i ≡ recordAt s i
-  stays-open l = go (becomes s e room g i h)
+  stays-open l = go (becomes s e g i h)
     where
-      go : {b : Bool} {q : Record} → Becomes s e room i b q → closes (recordAt s i) q ≡ false → q ≡ recordAt s i
+      go : {b : Bool} {q : Record} → Becomes s e i b q → closes (recordAt s i) q ≡ false → q ≡ recordAt s i
       go same n = refl
       go (passes m o) n = side (expiry (recordAt s i) (e .time)) n
         where
@@ -154,7 +155,7 @@ module _ (t : Table) (good : judged t ≡ Accepted) where
   history [] i h = rw (fresh-at t good i h) start
   history (e ∷ es) i h =
       let r = reached t good es in
-      next-history (runState from es) e (r .sound) (room-for t good (runState from es) r) i (rw (r .count) h) (taskAt t i) (jobsOf from es i) (history es i h)
+      next-history (runState from es) e (r .sound) i (rw (r .count) h) (taskAt t i) (jobsOf from es i) (history es i h)
 
   pub tallied : (es : List Event) (i : ℕ) → i < t .count → Tallied (taskAt t i) (jobsOf from es i) (runRecord from es i)
   tallied es i h =
@@ -169,7 +170,7 @@ module _ (t : Table) (good : judged t ≡ Accepted) where
   unfolding runState
   untouched es e i h l n =
       let r = reached t good es in
-      stays-open (runState from es) e (r .sound) (room-for t good (runState from es) r) i (rw (r .count) h) l n
+      stays-open (runState from es) e (r .sound) i (rw (r .count) h) l n
 
   pub numbered : (es : List Event) (i : ℕ) → i < t .count → Numbered (jobsOf from es i)
   unfolding jobsOf

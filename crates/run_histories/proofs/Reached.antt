@@ -19,10 +19,11 @@ use Rattle.bound_demand.specs.Above.{taskAt}
 use Rattle.apply_events.specs.declared.Applied.{Applied}
 use Rattle.apply_events.specs.Apply.{acted, applied}
 use Rattle.apply_events.proofs.Frame.{count-stays, past-stays, row-stays}
+use Rattle.apply_events.proofs.Happened.{Happened, refusal, acceptance, happened}
 use Rattle.apply_events.proofs.Kept.{applied-sound}
 use Rattle.apply_events.proofs.Places.{expired-length}
 use Rattle.run_histories.specs.History.{runState}
-use Rattle.run_histories.proofs.Taken.{Took, refusal, tick, release, completion, acts, took}
+use Rattle.run_histories.proofs.Taken.{acts}
 
 -- what an event keeps, refused or not
 pub record Keeps (s q : State) : Type 0 where
@@ -34,25 +35,21 @@ pub record Keeps (s q : State) : Type 0 where
   pub past : (i : ℕ) → s .count ≤ i → recordAt q i ≡ recordAt s i
 
 module _ (s : State) (e : Event) (g : StateSound s) where
-  onward : {a : Applied} → Took s e a → s .clock ≤ a .state .clock
-  onward (refusal n) = le-refl (s .clock)
-  onward (tick t k) = t .onward
-  onward (release t k h o) = t .onward
-  onward (completion t k h o) = t .onward
+  onward : {a : Applied} → Happened s e a → s .clock ≤ a .state .clock
+  onward (refusal n z v) = le-refl (s .clock)
+  onward (acceptance h c o) = h .onward
 
-  as-long : {a : Applied} → Took s e a → length (a .state .records) ≡ length (s .records)
-  as-long (refusal n) = refl
-  as-long (tick t k) = expired-length s (e .time)
-  as-long (release t k h o) = simp length-set (expired-length s (e .time))
-  as-long (completion t k h o) = simp length-set (expired-length s (e .time))
+  as-long : {a : Applied} → Happened s e a → length (a .state .records) ≡ length (s .records)
+  as-long (refusal n z v) = refl
+  as-long (acceptance h c o) = simp length-set (expired-length s (e .time))
 
   pub event-keeps : Keeps s (applied s e .state)
   event-keeps =
       record {
         sound = applied-sound s g e;
         count = count-stays s e;
-        onward = onward (took s e g);
-        places = as-long (took s e g);
+        onward = onward (happened s e);
+        places = as-long (happened s e);
         tasks = row-stays s e g;
         past = past-stays s e;
       }
@@ -66,9 +63,6 @@ pub record Reached (t : Table) (s : State) : Type 0 where
   pub past : (i : ℕ) → t .count ≤ i → recordAt s i ≡ getD (replicate 16 noRecord) i noRecord
 
 module _ (t : Table) (good : judged t ≡ Accepted) where
-  pub room-for : (s : State) → Reached t s → s .count ≤ length (s .records)
-  room-for s r = omega (arith, r .places, r .sound .counted .most)
-
   pub fresh-reached : Reached t (freshState t)
   fresh-reached =
       record {

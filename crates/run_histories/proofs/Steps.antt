@@ -8,6 +8,7 @@ use lib.Dec.{eqb, ltb}
 use Rattle.laws.proofs.Tests.{true-not-false, both-hold}
 use Rattle.task_records.specs.declared.Record.{Record}
 use Rattle.task_records.specs.Closing.{closed}
+use Rattle.task_records.proofs.Steps.{closed-idle}
 use Rattle.task_steps.specs.Opening.{expired}
 use Rattle.task_steps.specs.Own.{isOpen}
 
@@ -24,11 +25,6 @@ pub closed-same : (r : Record) (met : Bool) → Same r (closed r met)
 unfolding closed
 closed-same r true = record { task = refl; released = refl; last = refl }
 closed-same r false = record { task = refl; released = refl; last = refl }
-
-pub closed-idle : (r : Record) (met : Bool) → closed r met .live ≡ false
-unfolding closed
-closed-idle r true = refl
-closed-idle r false = refl
 
 -- step 2 closes what is still open
 abbrev pub cleared : Record → Record

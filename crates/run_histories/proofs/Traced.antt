@@ -6,7 +6,6 @@ use mathlib.Core.Bool.{Bool, true, false, cond}
 use mathlib.Core.List.{List, [], _∷_}
 use borrow.Author.Tests.{eqb-true}
 use lib.Dec.{eqb}
-use lib.ListN.{length}
 use Rattle.laws.proofs.Tests.{true-not-false, both-hold}
 use Rattle.event_reading.specs.declared.Event.{Event}
 use Rattle.table_rules.specs.declared.Table.{Table}
@@ -14,6 +13,7 @@ use Rattle.table_rules.specs.declared.Answer.the-variants.{Accepted}
 use Rattle.table_rules.specs.Judging.{judged}
 use Rattle.task_records.specs.declared.Record.{Record}
 use Rattle.task_records.specs.Closing.{closed}
+use Rattle.task_records.proofs.Steps.{closed-idle}
 use Rattle.task_steps.specs.Opening.{expired, opened}
 use Rattle.state_rules.specs.declared.State.{State}
 use Rattle.state_rules.specs.State.{recordAt, freshState}
@@ -22,9 +22,9 @@ use Rattle.apply_events.specs.Apply.{applied}
 use Rattle.task_steps.specs.Own.{reopened}
 use Rattle.run_histories.specs.History.{Job, Each, runState, runRecord, isAccepted, closes, closedJob, jobsOf}
 use Rattle.run_histories.specs.Traced.{Came, last, earlier, Opens, Closes, Traced}
-use Rattle.run_histories.proofs.Steps.{closed-idle, expired-open}
+use Rattle.run_histories.proofs.Steps.{expired-open}
 use Rattle.run_histories.proofs.Taken.{passed, Becomes, same, passes, reopens, finishes, becomes}
-use Rattle.run_histories.proofs.Reached.{room-for, reached}
+use Rattle.run_histories.proofs.Reached.{reached}
 use Rattle.run_histories.proofs.Jobs.{closing-open}
 
 module _ (t : Table) (good : judged t ≡ Accepted) where
@@ -41,9 +41,9 @@ module _ (t : Table) (good : judged t ≡ Accepted) where
   open-traced [] i h l = absurd (true-not-false (sym l ∙ ap (λ (r : Record). r .live) (fresh-at t good i h)))
   open-traced (e ∷ es) i h l =
       let r = reached t good es in
-      go (becomes (runState from es) e (room-for t good (runState from es) r) (r .sound) i (rw (r .count) h)) (open-traced es i h) refl refl l
+      go (becomes (runState from es) e (r .sound) i (rw (r .count) h)) (open-traced es i h) refl refl l
     where
-      go : {room : runState from es .count ≤ length (runState from es .records)} {b : Bool} {x : Record} → Becomes (runState from es) e room i b x
+      go : {b : Bool} {x : Record} → Becomes (runState from es) e i b x
           → (runRecord from es i .live ≡ true → Opened es i (runRecord from es i)) → isAccepted from es e ≡ b
           → recordAt (applied (runState from es) e .state) i ≡ x
           → x .live ≡ true → Opened (e ∷ es) i x

@@ -4,6 +4,7 @@ use mathlib.Core.Path.{_≡_}
 use mathlib.Core.Bool.{true}
 use mathlib.Core.List.{List, _∷_}
 use Rattle.event_reading.specs.declared.Event.{Event}
+use Rattle.event_reading.specs.Event.{aRelease}
 use Rattle.state_rules.specs.declared.State.{State}
 use Rattle.run_histories.specs.History.{Job, runRecord, isAccepted, closes}
 
@@ -15,7 +16,7 @@ pub data Came (P : List Event → Event → Type 0) : List Event → Type 0 wher
 -- an accepted release of task i at t, which left its record with n releases and class c
 pub record Opens (s : State) (i n t c : ℕ) (es : List Event) (e : Event) : Type 0 where
   pub accepted : isAccepted s es e ≡ true
-  pub kind : e .kind ≡ 1
+  pub kind : e .kind ≡ aRelease
   pub task : e .task ≡ i
   pub time : e .time ≡ t
   pub number : runRecord s (e ∷ es) i .released ≡ n

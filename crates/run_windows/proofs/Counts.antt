@@ -9,6 +9,7 @@ use Rattle.laws.specs.Numbers.{oneIf}
 use Rattle.table_rules.specs.declared.Task.{Task}
 use Rattle.task_records.specs.declared.Record.{Record}
 use Rattle.task_records.specs.Closing.{closed}
+use Rattle.task_records.proofs.Steps.{closed-idle}
 use Rattle.task_steps.specs.Opening.{fresh, opened}
 use Rattle.run_windows.specs.Outcomes.{mets, misses}
 use Rattle.run_windows.specs.History.{History, start, release, close}
@@ -24,11 +25,6 @@ pub record Counts (task : Task) (os : List Bool) (r : Record) : Type 0 where
   pub missed : r .missed ≡ misses os
   pub released : r .released ≡ length os + oneIf (r .live)
   pub fits : r .released ≤ 2 ^ 64 - 1
-
-closed-idle : (r : Record) (o : Bool) → closed r o .live ≡ false
-unfolding closed
-closed-idle r true = refl
-closed-idle r false = refl
 
 module _ {task : Task} where
   pub counts : {os : List Bool} {r : Record} → History task os r → Counts task os r

@@ -3,38 +3,12 @@ use super::Started;
 use super::State;
 use table_rules::Answer;
 use table_rules::Table;
-use table_rules::Task;
 use table_rules::rules::judge;
-use task_records::Record;
 use task_steps::opening::fresh_of;
+use task_steps::opening::no_record;
 ghost use mathlib.Core.Path.{_≡_};
 ghost use Prim.Native.Nat.{_≤_};
-ghost use Rattle.task_steps.specs.Opening.{noRecord};
 ghost use Rattle.state_rules.specs.State.{noState, freshState, started};
-
-fn no_record() -> Record
-    ensures { λ r. ⌜ r ≡ noRecord ⌝ }
-{
-    Record {
-        task: Task {
-            c: 0,
-            d: 0,
-            t: 0,
-            m: 0,
-            k: 0,
-        },
-        level: 0,
-        run: 0,
-        live: false,
-        class: 0,
-        last: 0,
-        released: 0,
-        met: 0,
-        missed: 0,
-        marks: 0,
-        broken: 0,
-    }
-}
 
 fn no_state() -> State
     ensures { λ r. ⌜ r ≡ noState ⌝ }

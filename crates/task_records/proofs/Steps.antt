@@ -1,6 +1,6 @@
 -- A record whose parts are those of a step is the record after the step: the steps' equations, over plain values.
 use Prim.Native.Nat.{ℕ, _+_, _<_}
-use mathlib.Core.Path.{_≡_}
+use mathlib.Core.Path.{_≡_, refl}
 use mathlib.Core.Bool.{Bool, true, false, cond}
 use borrow.Author.Tests.{leb-false}
 use lib.Dec.{eqb, leb}
@@ -55,3 +55,8 @@ stays-below r e = go (eqb (classOf (r .level)) 0) e
     go : (b : Bool) → cond b true (leb (wOf (r .task .m) (r .task .k)) (r .run + 1)) ≡ false → r .run + 1 < wOf (r .task .m) (r .task .k)
     go true q = absurd (true-not-false q)
     go false q = leb-false (wOf (r .task .m) (r .task .k)) (r .run + 1) q
+
+pub closed-idle : (r : Record) (met : Bool) → closed r met .live ≡ false
+unfolding closed
+closed-idle r true = refl
+closed-idle r false = refl

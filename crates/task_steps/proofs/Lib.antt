@@ -1,2 +1,3 @@
--- What is shown of the rank beside the functions' contracts.
+-- What is shown of an event's own task and of the rank beside the functions' contracts.
+pub mod OwnSteps
 pub mod Ranks

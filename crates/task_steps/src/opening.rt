@@ -7,7 +7,7 @@ use task_records::Record;
 use task_records::closing::close;
 use task_thresholds::h;
 ghost use mathlib.Core.Path.{_≡_};
-ghost use Rattle.task_steps.specs.Opening.{fresh, late, expired, opened};
+ghost use Rattle.task_steps.specs.Opening.{fresh, noRecord, late, expired, opened};
 
 pub fn fresh_of(task: Task) -> Record
     ensures { λ r. ⌜ r ≡ fresh task ⌝ }
@@ -16,6 +16,31 @@ pub fn fresh_of(task: Task) -> Record
     Record {
         task: task,
         level: level,
+        run: 0,
+        live: false,
+        class: 0,
+        last: 0,
+        released: 0,
+        met: 0,
+        missed: 0,
+        marks: 0,
+        broken: 0,
+    }
+}
+
+// A place that holds no task.
+pub fn no_record() -> Record
+    ensures { λ r. ⌜ r ≡ noRecord ⌝ }
+{
+    Record {
+        task: Task {
+            c: 0,
+            d: 0,
+            t: 0,
+            m: 0,
+            k: 0,
+        },
+        level: 0,
         run: 0,
         live: false,
         class: 0,

@@ -47,7 +47,7 @@ returns-3 c =
     rw (a .if1 .taken, eq-eqb _ _ (d .if2 .left ∙ class-is b)) (least-less (r .last) (r .task .d) (a .before .args .clock) ∙ sym (same-test _))
 
 returns-4 : tie.Need-returns-4
-returns-4 c = search needs
+returns-4 c = rw (c .if1 .left)
 
 pub open-holds-spec : {M : Type 1} → statement M
 open-holds-spec = tie.close (tie.spec class-requires returns cast-d returns-2 returns-3 returns-4)

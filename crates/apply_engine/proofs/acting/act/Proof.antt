@@ -14,12 +14,12 @@ use Rattle.event_logs.specs.Ending.{endedBy, endingAt}
 use Rattle.task_steps.specs.Opening.{expired, noRecord}
 use Rattle.state_rules.specs.declared.State.{State}
 use Rattle.state_choice.proofs.Least.{best-within}
-use Rattle.apply_ruling.proofs.Prompt.{seat-below}
+use Rattle.apply_ruling.proofs.Seats.{seat-below}
 use Rattle.apply_events.specs.declared.Applied.{Applied}
-use Rattle.apply_events.specs.Apply.{moved, acted, applied}
+use Rattle.apply_events.specs.Apply.{moved, applied}
 use Rattle.apply_events.specs.Log.{endedWith}
-use Rattle.apply_engine.proofs.Rulings.{Decides, refused-by, accepted-by, decided}
-use Rattle.apply_events.proofs.Runs.{sound-acts, Running, running-none, running-more, running-stop}
+use Rattle.apply_engine.proofs.Rulings.{seat, seatRuled, refused-by, accepted-by}
+use Rattle.apply_events.proofs.Runs.{Running, running-none, running-more, running-stop}
 use Rattle.apply_engine.proofs.Settled.{Settling, settling-none, settling-more, late-closed, prompt-stays, settled-accepted}
 use Rattle.apply_engine.proofs.acting.act.Statement.{statement}
 use Rattle.apply_engine.proofs.acting.act.Tie as tie
@@ -45,11 +45,16 @@ placed c =
     let n = c .before .before .before .pre .0 .counted in
     rw (c .seat .ensures) (omega (arith, seat-below (c .before .loop .event .task) (c .before .before .before .args .state .count) (n .one), n .most))
 
-decides : (c : tie.After-rule Inv-loop2 μ-loop2 Inv-loop μ-loop)
-    → Decides (c .before .before .before .loop .next) (c .before .before .before .loop .event) (c .before .before .seat .result) (acted (c .before .before .before .loop .next) (c .before .before .before .loop .event)) (c .rule .result)
-decides c =
+-- the ruling is that of the record at the seat
+ruling-is : (c : tie.After-rule Inv-loop2 μ-loop2 Inv-loop μ-loop)
+    → c .rule .result ≡ seatRuled (c .before .before .before .loop .next) (c .before .before .before .loop .event)
+ruling-is c =
     let l = c .before .before .before .loop in
-    rw (c .rule .ensures, c .before .before .seat .ensures, ← l .inv .counted) (decided (l .next) (l .event) (l .inv .sound))
+    c .rule .ensures ∙ rw (c .before .before .seat .ensures, ← l .inv .counted)
+
+seat-result : (c : tie.After-rule Inv-loop2 μ-loop2 Inv-loop μ-loop)
+    → c .before .before .seat .result ≡ seat (c .before .before .before .loop .next) (c .before .before .before .loop .event)
+seat-result c = c .before .before .seat .ensures ∙ rw (← c .before .before .before .loop .inv .counted)
 
 -- ---- the positions
 
@@ -96,19 +101,18 @@ body c =
     let l = c .before .before .before .before .before .loop in
     let s = l .next in
     let e = l .event in
-    let d = decides (c .before .before) in
-    sym (sound-acts s e (l .inv .sound))
-    ∙ ⊎-elim
+    let q = c .before .before .rule .result in
+    let d = ruling-is (c .before .before) in
+    ⊎-elim
     (λ w.
-    let a = accepted-by s e d (w .0 .taken) in
+    let a = accepted-by s e (l .inv .sound) q d (w .0 .taken) in
     let i : w .2 .i ≡ s .count = omega (arith, w .2 .inv .0, w .3 .left, l .inv .counted) in
     let v = w .2 .inv .1 in
-    let k = c .before .before .before .before .seat .result in
-    let x = c .before .before .rule .result .after in
+    let f = rw (i, seat-result (c .before .before)) at v .1 .1 in
     a .same
-    ∙ settled-accepted s (e .time) k x (w .2 .next .records) (w .2 .best) (l .inv .sound) (a .below) (a .prompt) (rw i at v .1 .1)
+    ∙ settled-accepted s (e .time) (seat s e) (q .after) (w .2 .next .records) (w .2 .best) (l .inv .sound) (a .below) (a .prompt) f
     ∙ rw (parts s (w .2 .next) (e .time) (v .0) (v .1 .0), w .5, w .6, w .4 .ensures))
-    (λ w. refused-by s e d (w .0 .left) ∙ rw (w .1, w .2))
+    (λ w. refused-by s e (l .inv .sound) q d (w .0 .left) ∙ rw (w .1, w .2))
     (c .if1 .came)
 
 -- ---- the needs, in the code's order

@@ -1,5 +1,4 @@
--- `judging::rule` meets its contract: what bars the event comes first.
-use mathlib.Core.Path.{_∙_}
+-- `judging::rule` meets its contract: what bars the event comes first, and then what refuses it of its own task.
 use borrow.Author.Tests.{eq-eqb, ne-eqb}
 use Rattle.apply_ruling.specs.Ruling.{ruled}
 use borrow.Author.Needs.{needs}
@@ -13,12 +12,40 @@ returns : tie.Need-returns
 unfolding ruled
 returns c = let j = c .before .bar .ensures in rw (← j, ne-eqb _ 0 (c .if1 .taken))
 
-own-of-requires : tie.Need-own-of-requires
-own-of-requires c κs = search needs
+expire-requires : tie.Need-expire-requires
+expire-requires c κs = search needs
+
+own-fault-requires : tie.Need-own-fault-requires
+own-fault-requires c κs = search needs
 
 returns-2 : tie.Need-returns-2
 unfolding ruled
-returns-2 c = let j = c .before .before .bar .ensures in c .own-of .ensures ∙ rw (← j, eq-eqb _ 0 (c .before .if1 .left))
+returns-2 c =
+    let f = c .before in
+    let x = f .before in
+    let b = x .before in
+    rw (← b .before .bar .ensures, eq-eqb _ 0 (b .if1 .left), ← x .expire .ensures, ← f .own-fault .ensures, ne-eqb _ 0 (c .if2 .taken))
+
+own-after-requires : tie.Need-own-after-requires
+own-after-requires c κs = search needs
+
+returns-3 : tie.Need-returns-3
+unfolding ruled
+returns-3 c =
+    let o = c .before in
+    let f = o .before in
+    let x = f .before in
+    let b = x .before in
+    rw (
+      ← b .before .bar .ensures,
+      eq-eqb _ 0 (b .if1 .left),
+      ← x .expire .ensures,
+      ← f .own-fault .ensures,
+      eq-eqb _ 0 (o .if2 .left),
+      c .own-after .ensures,
+    )
 
 pub rule-spec : {M : Type 1} → statement M
-rule-spec = tie.close (tie.spec bar-requires returns own-of-requires returns-2)
+rule-spec =
+    tie.close
+    (tie.spec bar-requires returns expire-requires own-fault-requires returns-2 own-after-requires returns-3)

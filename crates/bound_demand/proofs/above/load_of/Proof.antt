@@ -5,7 +5,7 @@ use mathlib.Core.Logic.{⊎-elim}
 use native.Mathlib.Numerals.{add-one}
 use native.Mathlib.Omega.{arith}
 use borrow.Author.Needs.{needs}
-use borrow.Author.Tests.{lt-ltb, le-ltb, le-leb, lt-leb}
+use borrow.Author.Tests.{lt-ltb, le-ltb, le-leb}
 use Rattle.laws.specs.Sums.{total}
 use Rattle.bound_demand.specs.Load.{partsTo, loadAt}
 use Rattle.bound_demand.proofs.Gathering.{Loaded, count-few, loaded-skip, loaded-more, loaded-all}

@@ -63,7 +63,7 @@ use Rattle.lent_engine.proofs.Called.{event-val, event-vals, SeatOf, Ru
 use Rattle.lent_engine.proofs.Called.{goes-rule, goes-unsound-ruling, seat-of-gives, rule-gives, unsound-ruling-gives}
 use Rattle.lent_walks.proofs.Operands.{reads-number}
 use Rattle.lent_walks.proofs.Plain.{calls-plain, calls-plain-last, calls-read-last}
-use Rattle.apply_ruling.proofs.Prompt.{seat-below}
+use Rattle.apply_ruling.proofs.Seats.{seat-below}
 use Rattle.lent_answers.proofs.Turns.{sound-here, ruled-sound, ruled-unsound}
 use Rattle.lent_walks.proofs.While.{scaled}
 use Rattle.lent_records.proofs.sound.is_sound_in as is-sound-in

@@ -63,7 +63,7 @@ use Rattle.lent_engine.proofs.Called.{event-val, event-vals, best-val, 
 use Rattle.lent_engine.proofs.Called.{goes-seat-of, goes-told-of, goes-expire-all-in, seat-of-gives, told-of-gives, expire-all-in-gives}
 use Rattle.lent_walks.proofs.Plain.{calls-plain}
 use Rattle.lent_walks.proofs.Loans.{under, lent-row, shared-row, calls-lent}
-use Rattle.apply_ruling.proofs.Prompt.{seat-below}
+use Rattle.apply_ruling.proofs.Seats.{seat-below}
 use Rattle.lent_answers.proofs.Turns.{chosen-within, chosen-told}
 use Rattle.lent_walks.proofs.While.{scaled}
 use Rattle.lent_records.proofs.expiry.expire_all_in.Symbol as expire-all-in-def

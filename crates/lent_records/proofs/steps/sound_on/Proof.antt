@@ -10,7 +10,7 @@ returns : tie.Need-returns
 returns c = rw (c .before .if1 .taken) (c .sound .ensures)
 
 returns-2 : tie.Need-returns-2
-returns-2 c = search needs
+returns-2 c = rw (c .if1 .left)
 
 pub sound-on-spec : {M : Type 1} → statement M
 sound-on-spec = tie.close (tie.spec sound-requires returns returns-2)

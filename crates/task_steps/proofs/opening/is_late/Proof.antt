@@ -22,7 +22,7 @@ returns-2 c =
     rw (a .if1 .taken) (below-less (a .before .args .of .last) (a .before .args .of .task .d) (a .before .args .time))
 
 returns-3 : tie.Need-returns-3
-returns-3 c = search needs
+returns-3 c = rw (c .if1 .left)
 
 pub is-late-spec : {M : Type 1} → statement M
 is-late-spec = tie.close (tie.spec cast-d returns returns-2 returns-3)

@@ -1,5 +1,4 @@
 -- `is_open` meets its contract, by whether a job is open.
-use borrow.Author.Needs.{needs}
 use Rattle.task_steps.proofs.own.is_open.Statement.{statement}
 use Rattle.task_steps.proofs.own.is_open.Tie as tie
 
@@ -7,7 +6,7 @@ returns : tie.Need-returns
 returns c = rw (c .before .if1 .taken)
 
 returns-2 : tie.Need-returns-2
-returns-2 c = search needs
+returns-2 c = rw (c .if1 .left)
 
 pub is-open-spec : {M : Type 1} → statement M
 is-open-spec = tie.close (tie.spec returns returns-2)
