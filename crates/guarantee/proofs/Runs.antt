@@ -26,8 +26,7 @@ use Rattle.state_choice.specs.declared.Best.{Best}
 use Rattle.state_rules.specs.State.{recordAt, freshState}
 use Rattle.state_rules.specs.Choice.{chosen}
 use Rattle.task_steps.specs.Rank.{Before}
-use Rattle.state_choice.specs.Least.{Chosen, Found, some, nothing}
-use Rattle.state_choice.proofs.Least.{best-is}
+use Rattle.state_choice.proofs.Least.{Chosen, Found, some, nothing, best-is}
 use Rattle.state_rules.proofs.Starting.{fresh-at}
 use Rattle.bound_demand.specs.Above.{taskAt, isAbove}
 use Rattle.bound_demand.proofs.Order.{above-tells}
@@ -267,7 +266,8 @@ module _ (t : Table) (good : judged t ≡ Accepted) (bound space : ℕ → ℕ) 
             (on-completion (t .count) (taskAt t) (isAbove t) bound space gate quota g m inv e onward short later picks less (new)
             (leftAfter from (e ∷ es)) below elsewhere lefts k l (there ∙ z))
 
-        steady-release : e .time ≤ end → e .kind ≡ aRelease → tooSoon (passed s e (e .task)) (e .time) ≡ false → q ≡ reopened (passed s e (e .task)) (e .time) → Onto
+        steady-release : e .time ≤ end → e .kind ≡ aRelease → tooSoon (passed s e (e .task)) (e .time) ≡ false
+            → q ≡ reopened (passed s e (e .task)) (e .time) → Onto
         unfolding jobsOf
         steady-release short k o z =
             at-time clk

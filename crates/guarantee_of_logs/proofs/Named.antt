@@ -35,4 +35,5 @@ named s e g i c q = go (happened s e) c
     go (acceptance t h (tick k)) c = absurd (omega (arith, kind))
     go (acceptance t h (release k o)) c = absurd (omega (arith, kind))
     go (acceptance t h (completion k o)) c =
-        rw task at (sym (is-open (passed s e (e .task)) (e .job) (job-open (passed s e (e .task)) e o) .1) ∙ expired-same (recordAt s (e .task)) (e .time) .released)
+        rw task at (sym (is-open (passed s e (e .task)) (e .job) (job-open (passed s e (e .task)) e o) .1)
+        ∙ expired-same (recordAt s (e .task)) (e .time) .released)

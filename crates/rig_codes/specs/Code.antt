@@ -9,6 +9,7 @@ use Rattle.table_rules.specs.declared.Answer.the-variants as T
 use Rattle.table_reading.specs.Table.{readTable}
 use Rattle.state_rules.specs.declared.State.{State}
 use Rattle.state_rules.specs.State.{freshState}
+use Rattle.event_logs.specs.Log.{mostBytes}
 use Rattle.event_logs.specs.declared.Ending.{Ending}
 use Rattle.event_logs.specs.declared.Ending.the-variants as E
 use Rattle.apply_events.specs.declared.Answer.{Answer}
@@ -46,12 +47,6 @@ ofAnswer (A.Run p c) = chosen p
 ofAnswer A.Idle = none
 ofAnswer (A.Refused n) = refused n
 
--- what an event that reads is answered in a run of n tasks: one of them, none, or 9 to 12
-abbrev pub InRun : ℕ → Answer → Type 0
-InRun n (A.Run p c) = p < n
-InRun n A.Idle = Unit
-InRun n (A.Refused k) = (9 ≤ k) × (k ≤ 12)
-
 -- a reading refusal goes before it
 abbrev pub afterReading : Ending → Case → Case
 afterReading E.Whole x = x
@@ -73,7 +68,7 @@ begins table = freshState (readTable table .table)
 -- over 65,536 bytes before anything else is looked at
 unfoldable pub caseOf : List ℕ → List ℕ → Case
 caseOf table log =
-    cond (ltb 65536 (length log)) too-long
+    cond (ltb mostBytes (length log)) too-long
     (afterTable (readTable table .answer) (logCase (begins table) log))
 
 unfoldable pub codeOf : List ℕ → List ℕ → ℕ

@@ -1,6 +1,6 @@
 -- Every closed job of a run was opened by an accepted release at its release, with its number and class, and closed by an event at its closing: an open job's
 -- record stands as the release left it, until the event that closes the job.
-use Prim.Native.Nat.{ℕ, _≤_, _<_}
+use Prim.Native.Nat.{ℕ, _<_}
 use mathlib.Core.Path.{_≡_, refl, sym, ap, subst, _∙_}
 use mathlib.Core.Bool.{Bool, true, false, cond}
 use mathlib.Core.List.{List, [], _∷_}
@@ -14,14 +14,13 @@ use Rattle.table_rules.specs.Judging.{judged}
 use Rattle.task_records.specs.declared.Record.{Record}
 use Rattle.task_records.specs.Closing.{closed}
 use Rattle.task_records.proofs.Steps.{closed-idle}
-use Rattle.task_steps.specs.Opening.{expired, opened}
+use Rattle.task_steps.specs.Opening.{opened}
 use Rattle.state_rules.specs.declared.State.{State}
 use Rattle.state_rules.specs.State.{recordAt, freshState}
 use Rattle.state_rules.proofs.Starting.{fresh-at}
 use Rattle.apply_events.specs.Apply.{applied}
-use Rattle.task_steps.specs.Own.{reopened}
 use Rattle.run_histories.specs.History.{Job, Each, runState, runRecord, isAccepted, closes, closedJob, jobsOf}
-use Rattle.run_histories.specs.Traced.{Came, last, earlier, Opens, Closes, Traced}
+use Rattle.run_histories.specs.Traced.{Came, last, earlier, Opens, Traced}
 use Rattle.run_histories.proofs.Steps.{expired-open}
 use Rattle.run_histories.proofs.Taken.{passed, Becomes, same, passes, reopens, finishes, becomes}
 use Rattle.run_histories.proofs.Reached.{reached}

@@ -7,7 +7,7 @@ use native.Mathlib.Omega.{arith}
 use Rattle.table_rules.specs.Order.{Higher}
 use Rattle.table_rules.proofs.Order.{higher-once, higher-some, higher-on}
 use Rattle.task_records.specs.declared.Record.{Record}
-use Rattle.task_steps.specs.Rank.{JobAbove, keyOf, Before}
+use Rattle.task_steps.specs.Rank.{JobAbove, Before}
 
 module _ (r : Record) (i : ℕ) (q : Record) (j : ℕ) where
   -- never both
