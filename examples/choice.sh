@@ -7,7 +7,7 @@ here='' input=''
 cd "$here"
 . tests/machine.sh
 compiler
-echo "proving and building the library for C (about 3 minutes the first time, a few seconds after that)" >&2
+echo "proving and building the library for C (about 2 minutes the first time, seconds after that)" >&2
 rt staticlib rig >&2
 mkdir -p target/tests
 "$cc" -std=c99 -Wall -Wextra -Werror -I include -static -o target/tests/choice examples/choice.c target/staticlib/librig.a
