@@ -6,6 +6,8 @@ from there import ROOT, missing, read, texts
 RULES = ROOT / "docs/RULES.md"
 # a heading is cited as: Rules, "Choice"; several as: Rules, "Choice" and "Window"
 CITED = re.compile(r'\bRules,? ("[^"]+"(?:(?:, and |, | and )"[^"]+")*)')
+# a path with a word in capitals stands for others; documents are named in capitals too
+STANDS_FOR = re.compile(r"[A-Z]{2,}(?!\w*\.md)|/N+\.")
 ELSEWHERE = re.compile(r"\bdocuments?[ /-]\d+|\b\d\d-\w+\.md\b|\bthis paper\b", re.I)
 
 
@@ -32,17 +34,17 @@ def elsewhere():
     """Documents that a reader does not have."""
     for path, text in texts():
         for number, line in enumerate(text.splitlines(), 1):
-            for found in ELSEWHERE.findall(line):
+            for found in [x for x in ELSEWHERE.findall(line) if not any((ROOT / "docs").rglob(x))]:
                 missing.append(f"{path.relative_to(ROOT)}:{number}: '{found}' is no document of the repository")
 
 
 def paths_stand():
-    """Every path of the repository that a document names; words in capitals stand for others."""
+    """Every path of the repository that a document names."""
     documents = [ROOT / "README.md", *sorted((ROOT / "docs").rglob("*.md")), *sorted((ROOT / "tests").rglob("*.md"))]
     for document in documents:
         for number, line in enumerate(read(document).splitlines(), 1):
-            for path in re.findall(r"[`( ]((?:crates|docs|tests|examples|include|\.ci)/[\w./-]*\w/?)[`), :;]", line + " "):
-                if not re.search(r"\b[A-Z]+\b(?!\.md)|\bNN\b", path) and not (ROOT / path).exists():
+            for path in re.findall(r"(?<=[`( ])(?:crates|docs|tests|examples|include|\.ci)/[\w./-]*\w(?=[`), :;./])", line + " "):
+                if not STANDS_FOR.search(path) and not (ROOT / path).exists():
                     missing.append(f"{document.relative_to(ROOT)}:{number}: there is no {path}")
 
 
