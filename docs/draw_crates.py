@@ -467,4 +467,5 @@ def main(words):
         sys.stdout.write(text)
 
 
-main(sys.argv[1:])
+if __name__ == "__main__":
+    main(sys.argv[1:])
