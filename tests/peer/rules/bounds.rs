@@ -1,4 +1,4 @@
-//! Rules, "Response bound".
+//! Rules, "Response bound": one task's bound, tried R by R, or by leaps where D is long.
 use crate::rules::table::Task;
 
 // The smallest R from 1 to D that the demand of R ticks fits into.
