@@ -1,9 +1,11 @@
 #!/bin/sh
 # list.sh [FILE]: proves and builds the listing program, and lists FILE, or the example.
 set -eu
-here=$(dirname "$(dirname "$(readlink -f "$0")")")
-input=$(readlink -f -- "${1:-$here/examples/line.bin}")
+here='' input=''
+# shellcheck source=examples/input.sh
+. "$(dirname "$(readlink -f "$0")")/input.sh"
 cd "$here"
 . tests/machine.sh
+echo "proving and building the listing program (about 4 minutes the first time, seconds after that)" >&2
 program listing >&2
 $start target/bin/listing <"$input"

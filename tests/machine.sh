@@ -15,7 +15,7 @@ needs() {
     wanted=$1
     shift
     { packages install -y "$@" || { packages update && packages install -y "$@"; }; } >/dev/null 2>&1 && return 0
-    echo "$wanted is not here, and $* could not be installed"
+    echo "$wanted is not here, and $* could not be installed: install it as root, then run this again" >&2
     return 1
 }
 
@@ -46,7 +46,7 @@ program() {
 }
 
 # client WORDS..: the rig's client over the static library, by these words of the compiler
-client() { "$cc" -std=c99 -Wall -Wextra -Werror -O2 -I include "$@" tests/rig.c target/staticlib/librig.a -lpthread; }
+client() { "$cc" -std=c99 -Wall -Wextra -Werror -O2 -I include "$@" tests/c/rig.c target/staticlib/librig.a -lpthread; }
 
 if [ "$(uname -m)" = x86_64 ]; then
     run='' start=''

@@ -2,7 +2,7 @@
 # The listing program where its input or its output is lost: a line on standard error says so, and nothing is said there otherwise.
 # A program of the toolchain cannot set its exit status, so that is 0 unless the system ends the program.
 set -eu
-cd "$(dirname "$0")/.."
+cd "$(dirname "$(readlink -f "$0")")/.."
 . tests/machine.sh
 compiler
 work=$(mktemp -d)

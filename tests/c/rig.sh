@@ -1,7 +1,7 @@
 #!/bin/sh
 # The bench rig from C: builds target/tests/rig, a C program over the static library, and runs its cases; on x86-64 under valgrind as well.
 set -eu
-cd "$(dirname "$(readlink -f "$0")")/.."
+cd "$(dirname "$(readlink -f "$0")")/../.."
 . tests/machine.sh
 compiler
 mkdir -p target/tests

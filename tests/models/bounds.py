@@ -1,5 +1,5 @@
 #!/usr/bin/env python3
-"""bound_cases.py FOLDER: makes the bound cases, stdin and stdout of crates/case_bounds, worked out from the rules alone.
+"""bounds.py FOLDER: makes the bound cases, stdin and stdout of crates/case_bounds, worked out from the rules alone.
 
 Every R from 1 to D is tried in turn. It makes the same files every time."""
 import random

@@ -1,5 +1,5 @@
 #!/usr/bin/env python3
-"""run_cases.py FOLDER: makes the run cases, stdin and stdout of crates/case_runs, from the rules alone.
+"""runs.py FOLDER: makes the run cases, stdin and stdout of crates/case_runs, from the rules alone.
 
 It makes the same files every time."""
 import math

@@ -1,9 +1,9 @@
 #!/usr/bin/env python3
-"""value_cases.py FOLDER: makes what crates/case_events has to print of its event values, from the rules alone; it reads nothing."""
+"""events.py FOLDER: makes what crates/case_events has to print of its event values, from the rules alone; it reads nothing."""
 import sys
 
 from frames import store
-from log_cases import LIMIT, WRAP, fault, record
+from logs import LIMIT, WRAP, fault, record
 
 
 def values():

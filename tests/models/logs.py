@@ -1,8 +1,8 @@
 #!/usr/bin/env python3
-"""log_cases.py FOLDER: makes the log cases, stdin and stdout of crates/case_logs, from the rules alone.
+"""logs.py FOLDER: makes the log cases, stdin and stdout of crates/case_logs, from the rules alone.
 
-The records are drawn from a generator with a fixed seed; what is expected of them is worked out here, from the bytes, by the rules
-of the rules: record of 20 bytes, refusals 5, 6, 7, 8 in this order, an empty rest is the end."""
+The records are drawn from a generator with a fixed seed; what is expected of them is worked out here, from the bytes:
+a record of 20 bytes, refusals 5, 6, 7, 8 in this order, an empty rest is the end."""
 import sys
 
 from frames import store

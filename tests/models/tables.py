@@ -1,5 +1,5 @@
 #!/usr/bin/env python3
-"""table_cases.py FOLDER: makes the table cases, stdin and stdout of crates/case_tables, worked out from the rules alone.
+"""tables.py FOLDER: makes the table cases, stdin and stdout of crates/case_tables, worked out from the rules alone.
 
 It makes the same files every time."""
 import math
