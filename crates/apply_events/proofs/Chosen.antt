@@ -15,8 +15,8 @@ use Rattle.event_reading.specs.declared.Event.{Event}
 use Rattle.task_steps.specs.Opening.{noRecord}
 use Rattle.state_choice.specs.declared.Best.{Best}
 use Rattle.state_choice.specs.Choice.{bestTo}
-use Rattle.state_choice.specs.Least.{Least, NoneOpen, Found, some, nothing}
-use Rattle.state_choice.proofs.Least.{best-is, least-exactly, least-one}
+use Rattle.state_choice.specs.Least.{Least, NoneOpen}
+use Rattle.state_choice.proofs.Least.{Found, some, nothing, best-is, least-exactly, least-one}
 use Rattle.state_rules.specs.declared.State.{State}
 use Rattle.state_rules.specs.State.{recordAt}
 use Rattle.state_rules.specs.Sound.{StateSound}

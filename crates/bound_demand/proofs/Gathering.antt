@@ -22,8 +22,14 @@ use Rattle.bound_demand.specs.declared.Part.{Part}
 use Rattle.bound_demand.specs.declared.Load.{Load}
 use Rattle.bound_demand.specs.Above.{taskAt, isAbove}
 use Rattle.bound_demand.specs.Demand.{costOf, spacingOf, partAt, demand}
-use Rattle.bound_demand.specs.Load.{noPart, partFor, emptyLoad, countTo, partsTo, loadAt, partIn, loadDemand, LoadOf}
+use Rattle.bound_demand.specs.Load.{noPart, partFor, emptyLoad, countTo, partsTo, loadAt, partIn, loadDemand, Ready}
 use Rattle.bound_demand.proofs.Obeyed.{few, cost-some, spacing-some}
+
+-- a load of the task at k: ready, and asking for as much as the table does
+pub record LoadOf (t : Table) (k : ℕ) (l : Load) : Type 0 where
+  pub ready : Ready l
+  pub own : l .own ≡ costOf (taskAt t k)
+  pub parts : (r : ℕ) → total (partIn (l .parts) r) (l .count) ≡ total (partAt t k r) (t .count)
 
 -- n parts of the tasks above k among the first i positions
 record Gathered (t : Table) (k : ℕ) (ps : List Part) (n i : ℕ) : Type 0 where

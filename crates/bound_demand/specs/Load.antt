@@ -1,6 +1,5 @@
 -- What the search goes by: a task's cost with the parts of the tasks above it.
 use Prim.Native.Nat.{ℕ, zero, suc, _+_, _≤_, _<_}
-use mathlib.Core.Path.{_≡_}
 use mathlib.Core.Bool.{cond}
 use mathlib.Core.List.{List}
 use lib.Dec.{ltb, leb}
@@ -12,7 +11,7 @@ use Rattle.table_rules.specs.declared.Table.{Table}
 use Rattle.bound_demand.specs.declared.Part.{Part}
 use Rattle.bound_demand.specs.declared.Load.{Load}
 use Rattle.bound_demand.specs.Above.{taskAt, isAbove}
-use Rattle.bound_demand.specs.Demand.{costOf, spacingOf, partOf, partAt}
+use Rattle.bound_demand.specs.Demand.{costOf, spacingOf, partOf}
 
 -- a place that holds no part
 abbrev pub noPart : Part
@@ -52,9 +51,3 @@ pub record Ready (l : Load) : Type 0 where
   pub some : 1 ≤ l .own
   pub few : l .count ≤ 16
   pub spaced : (i : ℕ) → i < l .count → 1 ≤ getD (l .parts) i noPart .spacing
-
--- a load of the task at k: ready, and asking for as much as the table does
-pub record LoadOf (t : Table) (k : ℕ) (l : Load) : Type 0 where
-  pub ready : Ready l
-  pub own : l .own ≡ costOf (taskAt t k)
-  pub parts : (r : ℕ) → total (partIn (l .parts) r) (l .count) ≡ total (partAt t k r) (t .count)

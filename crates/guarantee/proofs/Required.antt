@@ -17,9 +17,8 @@ use Rattle.task_records.specs.Closing.{closed}
 use Rattle.task_steps.specs.Opening.{fresh, opened}
 use Rattle.task_soundness.specs.Sound.{Sound}
 use Rattle.task_soundness.proofs.Kept.{end, fresh-sound, closed-sound, opened-sound, later-sound}
-use Rattle.run_windows.specs.History.{rungOf}
-use Rattle.run_windows.specs.Bound.{Ledger}
-use Rattle.run_windows.proofs.Ledgers.{ledger-fresh, ledger-opened, ledger-met, ledger-missed}
+use Rattle.run_windows.proofs.Levels.{rungOf}
+use Rattle.run_windows.proofs.Ledgers.{Ledger, ledger-fresh, ledger-opened, ledger-met, ledger-missed}
 use Rattle.run_histories.specs.History.{Job, outcomesOf, Each}
 use Rattle.guarantee.specs.Guarantee.{Good}
 use Rattle.run_histories.proofs.Steps.{closed-same, closed-idle}

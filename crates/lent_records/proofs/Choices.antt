@@ -14,8 +14,7 @@ use Rattle.state_choice.specs.declared.Best.{Best}
 use Rattle.state_rules.specs.declared.State.{State}
 use Rattle.state_choice.specs.Choice.{bestTo}
 use Rattle.state_rules.specs.Choice.{chosen}
-use Rattle.state_choice.specs.Least.{Found, some, nothing}
-use Rattle.state_choice.proofs.Least.{best-is, least-exactly}
+use Rattle.state_choice.proofs.Least.{Found, some, nothing, best-is, least-exactly}
 use Rattle.lent_records.specs.Row.{rowOf, LeastIn}
 
 -- of a row of any length: the open job above every other one, or none, exactly if nothing is open

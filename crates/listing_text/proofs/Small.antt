@@ -47,7 +47,7 @@ use Rattle.state_rules.specs.declared.State.{State}
 use Rattle.state_choice.specs.Choice.{bestTo}
 use Rattle.state_rules.specs.Sound.{limit, StateSound, stateHolds}
 use Rattle.state_rules.specs.State.{freshState}
-use Rattle.state_choice.specs.Least as Least
+use Rattle.state_choice.proofs.Least as Least
 use Rattle.state_choice.proofs.Least.{best-is}
 use Rattle.apply_events.specs.declared.Answer.the-variants as Said
 use Rattle.state_rules.specs.State.{recordAt as recordOf}

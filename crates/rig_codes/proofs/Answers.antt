@@ -32,7 +32,13 @@ use Rattle.apply_events.specs.Apply.{answerOf, moved, ticked, releasedAt, compl
 use Rattle.apply_events.specs.Log.{standing, ranOver, ran}
 use Rattle.apply_events.proofs.Frame.{count-stays}
 use Rattle.apply_events.proofs.Kept.{applied-sound}
-use Rattle.rig_codes.specs.Code.{codeFor, ofAnswer, InRun}
+use Rattle.rig_codes.specs.Code.{codeFor, ofAnswer}
+
+-- what an event that reads is answered in a run of n tasks: one of them, none, or 9 to 12
+abbrev pub InRun : ℕ → Answer → Type 0
+InRun n (A.Run p c) = p < n
+InRun n A.Idle = Unit
+InRun n (A.Refused k) = (9 ≤ k) × (k ≤ 12)
 
 answer-said : (s : State) → InRun (s .count) (answerOf s)
 answer-said s =

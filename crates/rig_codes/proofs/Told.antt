@@ -20,9 +20,9 @@ use Rattle.apply_events.specs.declared.Answer.{Answer}
 use Rattle.apply_events.specs.declared.Answer.the-variants as A
 use Rattle.apply_events.specs.Apply.{applied}
 use Rattle.apply_events.specs.Log.{stateAfter}
-use Rattle.rig_codes.specs.Code.{Case, chosen, none, refused, too-long, Fits, codeFor, caseFor, InRun, ofAnswer, begins, caseOf, codeOf}
+use Rattle.rig_codes.specs.Code.{Case, chosen, none, refused, too-long, Fits, codeFor, caseFor, ofAnswer, begins, caseOf, codeOf}
 use Rattle.rig_codes.specs.Given.{Begun, Given, long, bad-table, bad-record, empty, last, Source, of-table, of-record, of-event}
-use Rattle.rig_codes.proofs.Answers.{ran-said, said-16}
+use Rattle.rig_codes.proofs.Answers.{InRun, ran-said, said-16}
 use Rattle.rig_codes.proofs.Starts.{answer-is, begins-sound}
 use Rattle.rig_codes.proofs.Exactly.{ran-last, given-is, given-exactly}
 

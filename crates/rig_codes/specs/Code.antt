@@ -46,12 +46,6 @@ ofAnswer (A.Run p c) = chosen p
 ofAnswer A.Idle = none
 ofAnswer (A.Refused n) = refused n
 
--- what an event that reads is answered in a run of n tasks: one of them, none, or 9 to 12
-abbrev pub InRun : ℕ → Answer → Type 0
-InRun n (A.Run p c) = p < n
-InRun n A.Idle = Unit
-InRun n (A.Refused k) = (9 ≤ k) × (k ≤ 12)
-
 -- a reading refusal goes before it
 abbrev pub afterReading : Ending → Case → Case
 afterReading E.Whole x = x

@@ -27,9 +27,10 @@ use Rattle.state_rules.specs.declared.State.{State}
 use Rattle.state_rules.specs.State.{recordAt, freshState}
 use Rattle.state_rules.specs.Sound.{StateSound}
 use Rattle.state_rules.proofs.Starting.{fresh-at}
-use Rattle.run_windows.specs.Outcomes.{mets, misses, lastMisses, firstOver}
+use Rattle.run_windows.specs.Outcomes.{mets, misses, lastMisses}
+use Rattle.run_windows.specs.Broken.{firstOver}
 use Rattle.run_windows.specs.History.{History, start, release, close}
-use Rattle.run_windows.specs.Rungs.{Rung, rungAfter}
+use Rattle.run_windows.proofs.Levels.{Rung, rungAfter}
 use Rattle.run_windows.proofs.Counts.{counts}
 use Rattle.run_windows.proofs.Marks.{window-is}
 use Rattle.run_windows.proofs.Broken.{broken-is}

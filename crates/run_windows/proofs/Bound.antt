@@ -15,16 +15,17 @@ use Rattle.table_rules.specs.declared.Task.{Task}
 use Rattle.table_rules.specs.Rules.{Misses}
 use Rattle.task_thresholds.proofs.Paper.{w-one, h-covers, w-within, w-some}
 use Rattle.task_records.specs.declared.Record.{Record}
-use Rattle.run_windows.specs.Outcomes.{mets, lastMisses, firstOver}
-use Rattle.run_windows.specs.Rungs.{wFor, hFor, topFor, Rung, lowRung, metRung, missedRung}
+use Rattle.run_windows.specs.Outcomes.{mets, lastMisses}
+use Rattle.run_windows.specs.Broken.{firstOver}
 use Rattle.run_windows.specs.History.{History}
-use Rattle.run_windows.specs.Bound.{RequiredMet, Ledger, blank, then-met, then-missed, Within, Kept}
+use Rattle.run_windows.specs.Bound.{Within, Kept}
 use Rattle.run_windows.proofs.Counts.{together}
 use Rattle.run_windows.proofs.Marks.{window-is}
 use Rattle.run_windows.proofs.Broken.{broken-is, never-broken}
 use Rattle.task_levels.proofs.Needs.{need, need-lowest, need-class, raised-least}
+use Rattle.run_windows.proofs.Levels.{wFor, hFor, topFor, Rung, lowRung, metRung, missedRung}
 use Rattle.run_windows.proofs.Rungs.{Missed, back, on, missed-so, Held, h-some, low-held, met-held, missed-held}
-use Rattle.run_windows.proofs.Ledgers.{ledger-of, earlier}
+use Rattle.run_windows.proofs.Ledgers.{RequiredMet, Ledger, blank, then-met, then-missed, ledger-of, earlier}
 
 -- the misses in a row so far, and w where the next job has to be met
 abbrev owed : ℕ → ℕ → ℤ → ℕ

@@ -18,10 +18,11 @@ use Rattle.task_marks.specs.Marks.{pushed}
 use Rattle.task_records.specs.Window.{brokenBy}
 use Rattle.task_records.specs.Closing.{closed}
 use Rattle.task_steps.specs.Opening.{opened}
-use Rattle.run_windows.specs.Outcomes.{lastMisses, markOf, firstOver, firstJobs, Unbroken, BrokenAt}
+use Rattle.run_windows.specs.Outcomes.{lastMisses}
+use Rattle.run_windows.specs.Broken.{firstOver, firstJobs, Unbroken, BrokenAt}
 use Rattle.run_windows.specs.History.{History, start, release, close}
 use Rattle.run_windows.proofs.Counts.{counts}
-use Rattle.run_windows.proofs.Marks.{count-word, push-marks, marks-are}
+use Rattle.run_windows.proofs.Marks.{markOf, count-word, push-marks, marks-are}
 
 module _ {task : Task} (rules : Misses task) where
   broken-next : {os : List Bool} {r : Record} (o : Bool) → r .live ≡ true → History task os r → r .broken ≡ firstOver (task .m) (task .k) os

@@ -2,7 +2,7 @@
 use Prim.Native.Nat.{ℕ, zero, suc, _<_}
 use mathlib.Core.Path.{_≡_, refl, ap}
 use mathlib.Core.Bool.{Bool, true, false}
-use mathlib.Core.List.{List, [], _∷_}
+use mathlib.Core.List.{List, [], _∷_, _++_}
 use native.Mathlib.Omega.{arith}
 use lib.ListN.{drop}
 use Rattle.task_levels.specs.Level.{classOf}
@@ -10,10 +10,19 @@ use Rattle.table_rules.specs.declared.Task.{Task}
 use Rattle.task_records.specs.declared.Record.{Record}
 use Rattle.task_records.specs.Closing.{closed}
 use Rattle.task_steps.specs.Opening.{fresh, opened}
-use Rattle.run_windows.specs.Rungs.{Rung, lowRung, rungAfter}
-use Rattle.run_windows.specs.History.{rungOf}
-use Rattle.run_windows.specs.Bound.{RequiredMet, Ledger, blank, then-met, then-missed}
+use Rattle.run_windows.proofs.Levels.{Rung, rungOf, lowRung, metRung, missedRung, rungAfter}
 use Rattle.run_windows.proofs.Rungs.{rung-met, rung-missed, rung-opened}
+
+-- no job of the required class was missed: each missed job had a class above 0, by the level that the older jobs left
+abbrev pub RequiredMet : Task → List Bool → Type 0
+RequiredMet task os =
+    (newer older : List Bool) → os ≡ newer ++ (false ∷ older) → 0 < classOf (rungAfter task older .level)
+
+-- the same job by job, with the level and run that the outcomes leave
+pub data Ledger (task : Task) : List Bool → Rung → Type 0 where
+  blank : Ledger task [] (lowRung task)
+  then-met : {os : List Bool} {q : Rung} → Ledger task os q → Ledger task (true ∷ os) (metRung task q)
+  then-missed : {os : List Bool} {q : Rung} → 0 < classOf (q .level) → Ledger task os q → Ledger task (false ∷ os) (missedRung task q)
 
 module _ {task : Task} where
   pub ledger-of : (os : List Bool) → RequiredMet task os → Ledger task os (rungAfter task os)

@@ -2,6 +2,7 @@
 pub mod Counts
 pub mod Marks
 pub mod Broken
+pub mod Levels
 pub mod Rungs
 pub mod Ledgers
 pub mod Bound

@@ -17,9 +17,19 @@ use Rattle.task_marks.specs.Marks.{pushed}
 use Rattle.task_records.specs.Window.{windowOf}
 use Rattle.task_records.specs.Closing.{closed}
 use Rattle.task_steps.specs.Opening.{opened}
-use Rattle.run_windows.specs.Outcomes.{misses, lastMisses, markOf, wordOf}
+use Rattle.run_windows.specs.Outcomes.{misses, lastMisses}
 use Rattle.run_windows.specs.History.{History, start, release, close}
 use Rattle.run_windows.proofs.Counts.{counts}
+
+-- a miss is marked 1
+abbrev pub markOf : Bool → ℕ
+markOf true = 0
+markOf false = 1
+
+-- outcomes as marks in a word, the newest in the lowest place
+abbrev pub wordOf : List Bool → ℕ
+wordOf [] = 0
+wordOf (o ∷ os) = wordOf os * 2 + markOf o
 
 mark-below : (o : Bool) → markOf o < 2
 mark-below true = omega arith

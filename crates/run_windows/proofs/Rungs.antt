@@ -15,9 +15,9 @@ use Rattle.task_thresholds.proofs.Paper.{h-covers}
 use Rattle.task_records.specs.declared.Record.{Record}
 use Rattle.task_records.specs.Closing.{setBack, closed}
 use Rattle.task_steps.specs.Opening.{opened}
-use Rattle.run_windows.specs.Rungs.{wFor, hFor, topFor, Rung, lowRung, metRung, missedRung, longer, rungAfter, InRange}
-use Rattle.run_windows.specs.History.{History, start, release, close, rungOf}
+use Rattle.run_windows.specs.History.{History, start, release, close}
 use Rattle.run_windows.proofs.Counts.{counts}
+use Rattle.run_windows.proofs.Levels.{wFor, hFor, topFor, Rung, rungOf, lowRung, metRung, missedRung, longer, rungAfter, InRange}
 use Rattle.task_levels.proofs.Needs.{need, need-lowest, class-need, level-holds, raised-most, raised-class}
 
 -- what closing and opening do to level and run

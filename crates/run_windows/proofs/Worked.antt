@@ -11,9 +11,10 @@ use Rattle.task_records.specs.declared.Record.{Record}
 use Rattle.task_records.specs.Window.{windowOf}
 use Rattle.task_records.specs.Closing.{closed}
 use Rattle.task_steps.specs.Opening.{fresh, opened}
-use Rattle.run_windows.specs.Outcomes.{lastMisses, firstOver}
-use Rattle.run_windows.specs.Rungs.{Rung, lowRung, metRung, missedRung, rungAfter}
-use Rattle.run_windows.specs.Bound.{Ledger, blank, then-met, then-missed}
+use Rattle.run_windows.specs.Outcomes.{lastMisses}
+use Rattle.run_windows.specs.Broken.{firstOver}
+use Rattle.run_windows.proofs.Levels.{Rung, lowRung, metRung, missedRung, rungAfter}
+use Rattle.run_windows.proofs.Ledgers.{Ledger, blank, then-met, then-missed}
 
 -- a task (m, K) and the outcomes of its jobs, oldest first
 abbrev pub Case : Type 0

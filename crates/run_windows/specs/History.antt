@@ -7,13 +7,9 @@ use Rattle.table_rules.specs.declared.Task.{Task}
 use Rattle.task_records.specs.declared.Record.{Record}
 use Rattle.task_records.specs.Closing.{closed}
 use Rattle.task_steps.specs.Opening.{fresh, opened}
-use Rattle.run_windows.specs.Rungs.{Rung}
 
 -- the outcomes of the closed jobs and the record that they leave
 pub data History (task : Task) : List Bool → Record → Type 0 where
   start : History task [] (fresh task)
   release : {os : List Bool} {r : Record} (t : ℕ) → r .live ≡ false → r .released < 2 ^ 64 - 1 → History task os r → History task os (opened r t)
   close : {os : List Bool} {r : Record} (met : Bool) → r .live ≡ true → History task os r → History task (met ∷ os) (closed r met)
-
-abbrev pub rungOf : Record → Rung
-rungOf r = record { level = r .level; run = r .run }

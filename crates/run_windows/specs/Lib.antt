@@ -1,5 +1,5 @@
 -- What a reader has to believe, in the rules' order.
 pub mod Outcomes
-pub mod Rungs
+pub mod Broken
 pub mod History
 pub mod Bound

@@ -18,7 +18,18 @@ use Rattle.task_steps.specs.Rank.{JobAbove, keyOf, Before}
 use Rattle.task_steps.proofs.Ranks.{above-once, key-tells}
 use Rattle.state_choice.specs.declared.Best.{Best}
 use Rattle.state_choice.specs.Choice.{wins, better, bestTo}
-use Rattle.state_choice.specs.Least.{Least, Chosen, NoneOpen, Found, some, nothing}
+use Rattle.state_choice.specs.Least.{Least, NoneOpen}
+
+-- `Least` by the keys that the scan compares: `least-exactly` shows that they agree
+pub record Chosen (l : List Record) (n p : ℕ) : Type 0 where
+  pub below : p < n
+  pub live : getD l p noRecord .live ≡ true
+  pub least : (i : ℕ) → i < n → getD l i noRecord .live ≡ true → (i ≡ p → ⊥) → Before (getD l p noRecord) p (getD l i noRecord) i
+
+-- what the scan may have found
+pub data Found (l : List Record) (n : ℕ) : Best → Type 0 where
+  some : {p : ℕ} → Chosen l n p → Found l n (record { found = true; key = keyOf (getD l p noRecord); at = p })
+  nothing : {k p : ℕ} → NoneOpen l n → Found l n (record { found = false; key = k; at = p })
 
 module _ (l : List Record) where
   abbrev at : ℕ → Record

@@ -6,8 +6,7 @@ use mathlib.Core.List.{List}
 use lib.ListN.{getD}
 use Rattle.task_records.specs.declared.Record.{Record}
 use Rattle.task_steps.specs.Opening.{noRecord}
-use Rattle.task_steps.specs.Rank.{JobAbove, keyOf, Before}
-use Rattle.state_choice.specs.declared.Best.{Best}
+use Rattle.task_steps.specs.Rank.{JobAbove}
 
 -- the job at p is open, and above every other open one by class, then D, then position
 pub record Least (l : List Record) (n p : ℕ) : Type 0 where
@@ -15,17 +14,6 @@ pub record Least (l : List Record) (n p : ℕ) : Type 0 where
   pub live : getD l p noRecord .live ≡ true
   pub least : (i : ℕ) → i < n → getD l i noRecord .live ≡ true → (i ≡ p → ⊥) → JobAbove (getD l p noRecord) p (getD l i noRecord) i
 
--- the same by the keys that the scan compares: `least-exactly` shows it
-pub record Chosen (l : List Record) (n p : ℕ) : Type 0 where
-  pub below : p < n
-  pub live : getD l p noRecord .live ≡ true
-  pub least : (i : ℕ) → i < n → getD l i noRecord .live ≡ true → (i ≡ p → ⊥) → Before (getD l p noRecord) p (getD l i noRecord) i
-
 -- none has an open job
 abbrev pub NoneOpen : List Record → ℕ → Type 0
 NoneOpen l n = (i : ℕ) → i < n → getD l i noRecord .live ≡ false
-
--- what the scan may have found
-pub data Found (l : List Record) (n : ℕ) : Best → Type 0 where
-  some : {p : ℕ} → Chosen l n p → Found l n (record { found = true; key = keyOf (getD l p noRecord); at = p })
-  nothing : {k p : ℕ} → NoneOpen l n → Found l n (record { found = false; key = k; at = p })

@@ -18,8 +18,7 @@ use Rattle.state_choice.specs.declared.Best.{Best}
 use Rattle.state_rules.specs.State.{recordAt, freshState}
 use Rattle.state_rules.specs.Sound.{StateSound}
 use Rattle.state_rules.specs.Choice.{chosen}
-use Rattle.state_choice.specs.Least.{Found, some, nothing}
-use Rattle.state_choice.proofs.Least.{best-is}
+use Rattle.state_choice.proofs.Least.{Found, some, nothing, best-is}
 
 module _ (t : Table) (good : judged t ≡ Accepted) where
   pub fresh-at : (i : ℕ) → i < t .count → recordAt (freshState t) i ≡ fresh (getD (t .tasks) i noTask)

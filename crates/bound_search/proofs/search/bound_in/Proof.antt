@@ -3,10 +3,10 @@ use mathlib.Core.Path.{_∙_}
 use native.Mathlib.Omega.{arith}
 use borrow.Author.Needs.{needs}
 use Rattle.bound_demand.specs.Demand.{demand}
-use Rattle.bound_demand.specs.Load.{LoadOf, loadDemand}
+use Rattle.bound_demand.specs.Load.{loadDemand}
 use Rattle.bound_demand.specs.Above.{taskAt}
 use Rattle.bound_search.proofs.Fits.{fit-same}
-use Rattle.bound_demand.proofs.Gathering.{load-is, load-same}
+use Rattle.bound_demand.proofs.Gathering.{LoadOf, load-is, load-same}
 use Rattle.bound_demand.proofs.Obeyed.{few, deadline-most}
 use Rattle.bound_search.proofs.search.bound_in.Statement.{statement}
 use Rattle.bound_search.proofs.search.bound_in.Tie as tie

@@ -1,4 +1,4 @@
--- Rules, "Thresholds and classes": level and run as the outcomes of a task's closed jobs leave them.
+-- Level and run as one value, a rung, and what the outcomes of a task's closed jobs make of it: one step a job.
 use Prim.Native.Nat.{ℕ, _+_, _-_, _≤_}
 use mathlib.Core.Path.{_≡_}
 use mathlib.Core.Bool.{Bool, true, false, cond}
@@ -8,6 +8,7 @@ use lib.IntN.{ℤ}
 use Rattle.task_levels.specs.Level.{classOf, raised, lowest, levelHolds}
 use Rattle.table_rules.specs.declared.Task.{Task}
 use Rattle.task_thresholds.specs.Thresholds.{wOf, hOf, topOf}
+use Rattle.task_records.specs.declared.Record.{Record}
 
 -- w, h and top of a task
 abbrev pub wFor : Task → ℕ
@@ -22,6 +23,10 @@ topFor task = topOf (task .m) (task .k)
 pub record Rung : Type 0 where
   pub level : ℤ
   pub run : ℕ
+
+-- that of a record
+abbrev pub rungOf : Record → Rung
+rungOf r = record { level = r .level; run = r .run }
 
 -- level 1 - h, run 0
 unfoldable pub lowRung : Task → Rung
