@@ -7,6 +7,7 @@ use Rattle.laws.specs.Stores.{filled}
 use Rattle.table_rules.specs.declared.Table.{Table}
 use Rattle.table_rules.specs.declared.Answer.{Answer}
 use Rattle.table_rules.specs.declared.Answer.the-variants as Answer
+use Rattle.table_rules.specs.Limits.{placeCount}
 use Rattle.table_rules.specs.Rules.{noTask}
 use Rattle.state_rules.specs.declared.State.{State}
 use Rattle.state_rules.specs.State.{recordAt}
@@ -18,7 +19,7 @@ use Rattle.bound_all.specs.Asked.{allAnswer, allCells}
 
 -- the table that a state's tasks make
 abbrev pub tableIn : State → Table
-tableIn s = record { count = s .count; tasks = filled (λ i. recordAt s i .task) (s .count) (replicate 16 noTask) }
+tableIn s = record { count = s .count; tasks = filled (λ i. recordAt s i .task) (s .count) (replicate placeCount noTask) }
 
 unfoldable pub oneOfState : State → ℕ → Bound
 oneOfState s k = cond (stateHolds s) (oneAnswer (tableIn s) k) (Bound.Refused 15 0)

@@ -7,7 +7,7 @@ use Rattle.laws.specs.Said.{Said}
 use Rattle.event_reading.specs.declared.Event.{Event}
 use Rattle.event_reading.specs.declared.Reading.{Reading}
 use Rattle.event_reading.specs.declared.Reading.the-variants as R
-use Rattle.event_reading.specs.Record.{readRecord}
+use Rattle.event_reading.specs.Record.{eventSize, readRecord}
 use Rattle.event_logs.specs.declared.Ending.{Ending}
 use Rattle.event_logs.specs.declared.Ending.the-variants as E
 use Rattle.event_logs.specs.Log.{readable, readAt}
@@ -19,9 +19,9 @@ FirstRead log n = (i : ℕ) → i < n → (e : Event) × (readAt log i ≡ R.Eve
 -- how the reading of a log ends, rule by rule
 pub data Ends (log : List ℕ) : Ending → Type 0 where
   -- records that read, and no bytes left
-  whole : (n : ℕ) → FirstRead log n → 20 * n ≡ length log → Ends log E.Whole
+  whole : (n : ℕ) → FirstRead log n → eventSize * n ≡ length log → Ends log E.Whole
   -- records that read, and at that byte one that does not
-  stopped : (n : ℕ) → FirstRead log n → {number : ℕ} → readAt log n ≡ R.Refused number → Ends log (E.Stopped number (20 * n))
+  stopped : (n : ℕ) → FirstRead log n → {number : ℕ} → readAt log n ≡ R.Refused number → Ends log (E.Stopped number (eventSize * n))
 
 -- the same as computed: `ends-is` and `ends-only` show that they agree. No event stands where a reading ended (`rest-silent`)
 abbrev pub endedBy : Reading → ℕ → Ending
@@ -35,11 +35,11 @@ endingAt log offset = endedBy (readRecord (drop offset log)) offset
 
 -- the reading ends behind the records that read
 abbrev pub endingOf : List ℕ → Ending
-endingOf log = endingAt log (20 * readable log)
+endingOf log = endingAt log (eventSize * readable log)
 
 -- a reading that goes on at a place ends behind the records that read from there on
 abbrev pub endingFrom : List ℕ → ℕ → Ending
-endingFrom log from = endingAt log (from + 20 * readable (drop from log))
+endingFrom log from = endingAt log (from + eventSize * readable (drop from log))
 
 -- the rules' number, and the offset that goes with one
 abbrev pub endSaid : Ending → Said ℕ

@@ -11,6 +11,10 @@ use Rattle.event_reading.specs.declared.Reading.{Reading}
 use Rattle.event_reading.specs.declared.Reading.the-variants as R
 use Rattle.event_reading.specs.Event.{Zeroed, Ruled, faultOf}
 
+-- the bytes of an event record
+abbrev pub eventSize : ℕ
+eventSize = 20
+
 -- the mark that a record begins with
 pub record Marked (s : List ℕ) : Type 0 where
   pub first : getD s 0 0 ≡ 0x45
@@ -23,11 +27,11 @@ eventOf s = record { kind = getD s 2 0; task = getD s 3 0; job = number (take 8 
 -- what reading the front of a slice says, rule by rule: the end, then 5, 6, 7, 8, then the event
 pub data Reads (s : List ℕ) : Reading → Type 0 where
   ended : length s ≡ 0 → Reads s R.End
-  short : 0 < length s → length s < 20 → Reads s (R.Refused 5)
-  unmarked : 20 ≤ length s → (Marked s → ⊥) → Reads s (R.Refused 6)
-  unknown : 20 ≤ length s → Marked s → 2 < eventOf s .kind → Reads s (R.Refused 7)
-  stray : 20 ≤ length s → Marked s → eventOf s .kind ≤ 2 → (Zeroed (eventOf s) → ⊥) → Reads s (R.Refused 8)
-  whole : 20 ≤ length s → Marked s → Ruled (eventOf s) → Reads s (R.Event (eventOf s))
+  short : 0 < length s → length s < eventSize → Reads s (R.Refused 5)
+  unmarked : eventSize ≤ length s → (Marked s → ⊥) → Reads s (R.Refused 6)
+  unknown : eventSize ≤ length s → Marked s → 2 < eventOf s .kind → Reads s (R.Refused 7)
+  stray : eventSize ≤ length s → Marked s → eventOf s .kind ≤ 2 → (Zeroed (eventOf s) → ⊥) → Reads s (R.Refused 8)
+  whole : eventSize ≤ length s → Marked s → Ruled (eventOf s) → Reads s (R.Event (eventOf s))
 
 -- the same as computed tests: `reads-is` and `reads-only` show that they agree
 unfoldable pub marks : List ℕ → Bool
@@ -40,5 +44,5 @@ heard e n = cond (eqb n 0) (R.Event e) (R.Refused n)
 unfoldable pub readRecord : List ℕ → Reading
 readRecord s =
     cond (eqb (length s) 0) R.End
-    (cond (ltb (length s) 20) (R.Refused 5)
+    (cond (ltb (length s) eventSize) (R.Refused 5)
     (cond (marks s) (heard (eventOf s) (faultOf (eventOf s))) (R.Refused 6)))

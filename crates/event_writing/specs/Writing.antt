@@ -1,4 +1,4 @@
--- Rules, "Order of refusals", for writing an event: the 20 bytes of an event, the value's own refusal, then 14; bytes past the record stay, and a refused write leaves all.
+-- Rules, "Order of refusals", for writing an event: its bytes, the value's own refusal, then 14; bytes past the record stay, and a refused write leaves all.
 use Prim.Native.Nat.{ℕ, _^_, _≤_, _<_}
 use mathlib.Core.Bool.{cond}
 use mathlib.Core.List.{List, [], _∷_, _++_}
@@ -9,13 +9,14 @@ use Rattle.event_reading.specs.declared.Event.{Event}
 use Rattle.event_writing.specs.declared.Writing.{Writing}
 use Rattle.event_writing.specs.declared.Writing.the-variants as W
 use Rattle.event_reading.specs.Event.{Zeroed, Ruled, faultOf}
+use Rattle.event_reading.specs.Record.{eventSize}
 use Rattle.laws.specs.Said.{Said}
 
 -- the mark, the kind and the task
 abbrev pub headOf : ℕ → ℕ → List ℕ
 headOf kind task = 0x45 ∷ 0x56 ∷ kind ∷ task ∷ []
 
--- the 20 bytes of an event
+-- the bytes of an event
 unfoldable pub recordOf : Event → List ℕ
 recordOf e = headOf (e .kind) (e .task) ++ (bytes 8 (e .job) ++ bytes 8 (e .time))
 
@@ -23,19 +24,19 @@ recordOf e = headOf (e .kind) (e .task) ++ (bytes 8 (e .job) ++ bytes 8 (e .time
 pub data Writes (e : Event) (s : List ℕ) : Writing → List ℕ → Type 0 where
   broken-7 : 2 < e .kind → Writes e s (W.Refused 7) s
   broken-8 : e .kind ≤ 2 → (Zeroed e → ⊥) → Writes e s (W.Refused 8) s
-  cramped : Ruled e → length s < 20 → Writes e s (W.Refused 14) s
-  stored : Ruled e → 20 ≤ length s → Writes e s W.Whole (recordOf e ++ drop 20 s)
+  cramped : Ruled e → length s < eventSize → Writes e s (W.Refused 14) s
+  stored : Ruled e → eventSize ≤ length s → Writes e s W.Whole (recordOf e ++ drop eventSize s)
 
 -- the number of a writing: the value's own refusal, then 14, or 0 where the record is written
 unfoldable pub writeFault : Event → List ℕ → ℕ
-writeFault e s = cond (eqb (faultOf e) 0) (cond (ltb (length s) 20) 14 0) (faultOf e)
+writeFault e s = cond (eqb (faultOf e) 0) (cond (ltb (length s) eventSize) 14 0) (faultOf e)
 
 unfoldable pub wroteRecord : Event → List ℕ → Writing
 wroteRecord e s = cond (eqb (writeFault e s) 0) W.Whole (W.Refused (writeFault e s))
 
--- the slice afterwards: bytes past the 20 stay, and a refused writing leaves every byte
+-- the slice afterwards: bytes past the record stay, and a refused writing leaves every byte
 unfoldable pub afterWrite : Event → List ℕ → List ℕ
-afterWrite e s = cond (eqb (writeFault e s) 0) (recordOf e ++ drop 20 s) s
+afterWrite e s = cond (eqb (writeFault e s) 0) (recordOf e ++ drop eventSize s) s
 
 -- the rules' number for each case
 abbrev pub writtenSaid : Writing → Said Event

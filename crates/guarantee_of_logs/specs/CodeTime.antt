@@ -8,7 +8,8 @@ use lib.Dec.{eqb, leb, ltb}
 use lib.ListN.{length}
 use Rattle.laws.specs.Numbers.{oneIf}
 use Rattle.laws.specs.Sums.{total}
-use Rattle.event_logs.specs.Log.{eventsOf}
+use Rattle.event_reading.specs.Record.{eventSize}
+use Rattle.event_logs.specs.Log.{mostBytes, eventsOf}
 use Rattle.task_records.specs.declared.Record.{Record}
 use Rattle.guarantee.specs.Premise.{Waits}
 use Rattle.guarantee_of_logs.specs.Places.{eventAt, recordAfter}
@@ -38,17 +39,17 @@ codeTime table log n i x =
 -- the premise by the answers: accepted is a code below 32, and chosen time is counted by codes
 abbrev pub CodesObey : List ℕ → List ℕ → Type 0
 CodesObey table log =
-    (n : ℕ) → 20 * suc n ≤ length log → codeAfter table log (suc n) < 32
+    (n : ℕ) → eventSize * suc n ≤ length log → codeAfter table log (suc n) < 32
     → (i x : ℕ) → i < begins table .count → recordOf table log n i .live ≡ true → recordOf table log n i .task .c ≤ codeTime table log n i x
     → Waits (eventAt (eventsOf log) n) x
 
 -- of the logs that the function looks at: the code that stands is the choice that stands, chosen time is the time by codes, and the premise is the
 -- one by the answers
 pub record Answered (table log : List ℕ) : Type 0 where
-  pub choices : (n y : ℕ) → 20 * n ≤ length log → choiceCode (standingAt (begins table) (eventsOf log) n y) ≡ standingCode table log n y
-  pub times : (n i x : ℕ) → 20 * n ≤ length log → i < begins table .count
+  pub choices : (n y : ℕ) → eventSize * n ≤ length log → choiceCode (standingAt (begins table) (eventsOf log) n y) ≡ standingCode table log n y
+  pub times : (n i x : ℕ) → eventSize * n ≤ length log → i < begins table .count
       → openAfter (begins table) (eventsOf log) n i x ≡ codeTime table log n i x
   pub premise : LogObeys (begins table) (eventsOf log) ↔ CodesObey table log
 
 abbrev pub AnswersOfLogs : Type 0
-AnswersOfLogs = (table log : List ℕ) → BothRead table log → length log ≤ 65536 → Answered table log
+AnswersOfLogs = (table log : List ℕ) → BothRead table log → length log ≤ mostBytes → Answered table log

@@ -5,7 +5,8 @@ use mathlib.Core.Bool.{true, false, cond}
 use mathlib.Core.List.{List}
 use lib.ListN.{length, take}
 use Rattle.event_reading.specs.declared.Event.{Event}
-use Rattle.event_logs.specs.Log.{eventsOf}
+use Rattle.event_reading.specs.Record.{eventSize}
+use Rattle.event_logs.specs.Log.{mostBytes, eventsOf}
 use Rattle.state_rules.specs.declared.State.{State}
 use Rattle.state_rules.specs.Choice.{chosen}
 use Rattle.apply_events.specs.declared.Answer.the-variants.{Refused}
@@ -16,7 +17,7 @@ use Rattle.guarantee_of_logs.specs.Bytes.{BothRead}
 
 -- the function's answer for the first n records
 abbrev pub codeAfter : List ℕ → List ℕ → ℕ → ℕ
-codeAfter table log n = codeOf table (take (20 * n) log)
+codeAfter table log n = codeOf table (take (eventSize * n) log)
 
 -- the chosen position, or 16 for none
 abbrev pub choiceCode : State → ℕ
@@ -35,5 +36,5 @@ pub data CodeTells (s : State) (es : List Event) : ℕ → ℕ → Type 0 where
 -- of the logs that the function looks at, for every number of records
 abbrev pub CodesOfLogs : Type 0
 CodesOfLogs =
-    (table log : List ℕ) → BothRead table log → length log ≤ 65536 → (n : ℕ) → 20 * n ≤ length log
+    (table log : List ℕ) → BothRead table log → length log ≤ mostBytes → (n : ℕ) → eventSize * n ≤ length log
     → CodeTells (begins table) (eventsOf log) n (codeAfter table log n)

@@ -5,7 +5,7 @@ use mathlib.Core.List.{List}
 use lib.ListN.{length}
 use Rattle.table_rules.specs.declared.Answer.the-variants.{Accepted}
 use Rattle.table_reading.specs.Table.{readTable}
-use Rattle.event_logs.specs.Log.{eventsOf}
+use Rattle.event_logs.specs.Log.{mostBytes, eventsOf}
 use Rattle.bound_all.specs.Asked.{allAnswer}
 use Rattle.guarantee_of_logs.specs.Premise.{LogObeys}
 use Rattle.guarantee_of_logs.specs.Keeps.{LogKeeps}
@@ -24,6 +24,6 @@ GuaranteeOfLogs =
 -- the same where the premise is read off the function's answers, of a log that it looks at
 abbrev pub GuaranteeByAnswers : Type 0
 GuaranteeByAnswers =
-    (table log : List ℕ) (room : ℕ) → BothRead table log → length log ≤ 65536 → allAnswer (readTable table .table) room ≡ Accepted
+    (table log : List ℕ) (room : ℕ) → BothRead table log → length log ≤ mostBytes → allAnswer (readTable table .table) room ≡ Accepted
     → CodesObey table log
     → (i : ℕ) → i < readTable table .table .count → LogKeeps (readTable table .table) (begins table) (eventsOf log) i

@@ -16,7 +16,7 @@ use Rattle.table_rules.specs.declared.Table.{Table}
 use Rattle.table_rules.specs.Rules.{noTask}
 use Rattle.table_rules.specs.Judging.{judged}
 use Rattle.table_rules.proofs.Exactly.{judged-accepted}
-use Rattle.table_reading.specs.Table.{taskFrom, recordAt, tableOf, beside, readAnswer, readTable}
+use Rattle.table_reading.specs.Table.{taskFrom, bytesAt, tableOf, beside, readAnswer, readTable}
 use Rattle.table_reading.proofs.Exactly.{length-at, read-accepted}
 use Rattle.table_reading.proofs.Records.{record-task}
 use Rattle.listing_text.specs.Listing.{countByte, tableThere, eventsFrom, tableBytes, eventBytes}
@@ -36,7 +36,7 @@ read-good s e =
       r .0 .counted,
       λ i h.
           let t = filled-below (taskFrom s) (replicate 16 noTask) noTask n i (r .0 .counted .most) h in
-          rw t (record-task (recordAt s i) (length-at s i h) 0 (λ z. omega (arith, z)) .0 (r .1 i h) .1),
+          rw t (record-task (bytesAt s i) (length-at s i h) 0 (λ z. omega (arith, z)) .0 (r .1 i h) .1),
     ))
 
 module _ (s : List ℕ) where

@@ -22,7 +22,7 @@ use Rattle.table_rules.proofs.Exactly.{judged-accepted}
 use Rattle.table_rules.proofs.Faults.{found-then}
 use Rattle.task_thresholds.proofs.Paper.{w-small, h-some}
 use Rattle.table_rules.proofs.Ruling.{fault-none}
-use Rattle.table_reading.specs.Table.{recordAt, recordFaultAt, bytesHold, tableOf, readAnswer, readTable}
+use Rattle.table_reading.specs.Table.{bytesAt, recordFaultAt, bytesHold, tableOf, readAnswer, readTable}
 use Rattle.table_reading.proofs.Exactly.{whole-tells, length-at}
 use Rattle.table_reading.proofs.Records.{record-among}
 use Rattle.bound_search.specs.declared.Found.{Found}
@@ -50,7 +50,7 @@ use Rattle.state_rules.specs.State.{freshState}
 use Rattle.state_choice.proofs.Least as Least
 use Rattle.state_choice.proofs.Least.{best-is}
 use Rattle.apply_events.specs.declared.Answer.the-variants as Said
-use Rattle.state_rules.specs.State.{recordAt as recordOf}
+use Rattle.state_rules.specs.State.{recordAt}
 use Rattle.apply_events.specs.declared.Answer.{Answer as Said}
 use Rattle.apply_events.specs.declared.Applied.{Applied}
 use Rattle.apply_events.specs.Apply.{answerOf, ticked, releasedAt, completedAt, byKind, timed, acted, applied}
@@ -69,7 +69,7 @@ refusal-small s x p e = go (bytesHold s) refl (sym (beside-answer (readAnswer s)
         let f = found-then (recordFaultAt s) (length s / 16) x p q in
         let w = whole-tells s .holds h in
         let m : recordFaultAt s p < 100 =
-        record-among (recordAt s p) (length-at s p (f .below)) (λ (n : ℕ). n < 100) (omega arith) (omega arith) (omega arith) (omega arith) in
+        record-among (bytesAt s p) (length-at s p (f .below)) (λ (n : ℕ). n < 100) (omega arith) (omega arith) (omega arith) (omega arith) in
         (omega (arith, m, f .fault), omega (arith, f .below, w .counted .most))
     go false h q =
         let a : 1 ≡ x = cc in
@@ -125,9 +125,9 @@ module _ (s : State) (sound : StateSound s) where
   answer-small : Small (answerOf s)
   answer-small = go (bestTo (s .records) (min (s .count) 16)) (best-is (s .records) (min (s .count) 16))
     where
-      go : (b : Best) → Least.Found (s .records) (min (s .count) 16) b → Small (cond (b .found) (Said.Run (b .at) (recordOf s (b .at) .class)) Said.Idle)
+      go : (b : Best) → Least.Found (s .records) (min (s .count) 16) b → Small (cond (b .found) (Said.Run (b .at) (recordAt s (b .at) .class)) Said.Idle)
       go b (Least.some {p} f) =
-          (omega (arith, f .below), class-small (recordOf s p) (s .clock) (sound .each p (omega (arith, f .below))) (f .live))
+          (omega (arith, f .below), class-small (recordAt s p) (s .clock) (sound .each p (omega (arith, f .below))) (f .live))
       go b (Least.nothing f) = tt
 
 module _ (s : State) (e : Event) where
@@ -137,7 +137,7 @@ module _ (s : State) (e : Event) where
 
   -- the record of the event's task after step 1
   abbrev after-1 : Record
-  after-1 = expired (recordOf s (e .task)) (e .time)
+  after-1 = expired (recordAt s (e .task)) (e .time)
 
   kind-fair : Fair (byKind s e)
   unfolding byKind ticked releasedAt completedAt

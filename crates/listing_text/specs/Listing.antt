@@ -8,9 +8,11 @@ use Rattle.laws.specs.Tests.{allOf}
 use Rattle.table_rules.specs.declared.Table.{Table}
 use Rattle.table_rules.specs.declared.Answer.{Answer}
 use Rattle.table_rules.specs.declared.Answer.the-variants.{Accepted, Refused}
+use Rattle.table_rules.specs.Limits.{mostTasks}
 use Rattle.table_reading.specs.declared.TableRead.{TableRead}
+use Rattle.table_reading.specs.Row.{taskSize}
 use Rattle.table_reading.specs.Table.{readTable}
-use Rattle.event_logs.specs.Log.{eventsOf}
+use Rattle.event_logs.specs.Log.{mostBytes, eventsOf}
 use Rattle.state_rules.specs.State.{freshState}
 use Rattle.listing_text.specs.TableLines.{taskLines, lastLines}
 use Rattle.apply_events.specs.Log.{stateAfter}
@@ -38,20 +40,20 @@ countByte s = getD s 0 0
 
 -- n is 1 to 16, and n table records are there
 abbrev pub tableThere : List ℕ → Bool
-tableThere s = allOf (leb 1 (countByte s) ∷ leb (countByte s) 16 ∷ leb (1 + 16 * countByte s) (length s) ∷ [])
+tableThere s = allOf (leb 1 (countByte s) ∷ leb (countByte s) mostTasks ∷ leb (1 + taskSize * countByte s) (length s) ∷ [])
 
 -- where the events begin; 0 where the table is not there
 abbrev pub eventsFrom : List ℕ → ℕ
-eventsFrom s = cond (tableThere s) (1 + 16 * countByte s) 0
+eventsFrom s = cond (tableThere s) (1 + taskSize * countByte s) 0
 
 abbrev pub tableBytes : List ℕ → List ℕ
-tableBytes s = take (16 * countByte s) (drop 1 s)
+tableBytes s = take (taskSize * countByte s) (drop 1 s)
 
 abbrev pub eventBytes : List ℕ → List ℕ
-eventBytes s = drop (1 + 16 * countByte s) s
+eventBytes s = drop (1 + taskSize * countByte s) s
 
 -- missing or short table bytes, or n outside 1 to 16, are refusal 1; over 65,536 bytes it prints only `input too long`
 unfoldable pub listingOf : List ℕ → List ℕ
 listingOf s =
-    cond (ltb 65536 (length s)) tooLong
+    cond (ltb mostBytes (length s)) tooLong
     (cond (tableThere s) (listed (readTable (tableBytes s)) (eventBytes s)) (refusedLine 1 0))

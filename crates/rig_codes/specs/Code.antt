@@ -9,6 +9,7 @@ use Rattle.table_rules.specs.declared.Answer.the-variants as T
 use Rattle.table_reading.specs.Table.{readTable}
 use Rattle.state_rules.specs.declared.State.{State}
 use Rattle.state_rules.specs.State.{freshState}
+use Rattle.event_logs.specs.Log.{mostBytes}
 use Rattle.event_logs.specs.declared.Ending.{Ending}
 use Rattle.event_logs.specs.declared.Ending.the-variants as E
 use Rattle.apply_events.specs.declared.Answer.{Answer}
@@ -67,7 +68,7 @@ begins table = freshState (readTable table .table)
 -- over 65,536 bytes before anything else is looked at
 unfoldable pub caseOf : List ℕ → List ℕ → Case
 caseOf table log =
-    cond (ltb 65536 (length log)) too-long
+    cond (ltb mostBytes (length log)) too-long
     (afterTable (readTable table .answer) (logCase (begins table) log))
 
 unfoldable pub codeOf : List ℕ → List ℕ → ℕ

@@ -8,7 +8,7 @@ use Rattle.table_reading.specs.Table.{readTable}
 use Rattle.event_reading.specs.declared.Event.{Event}
 use Rattle.event_reading.specs.declared.Reading.the-variants as R
 use Rattle.event_reading.specs.Record.{readRecord}
-use Rattle.event_logs.specs.Log.{restOf, eventsOf}
+use Rattle.event_logs.specs.Log.{mostBytes, restOf, eventsOf}
 use Rattle.apply_events.specs.declared.Answer.the-variants as A
 use Rattle.apply_events.specs.Apply.{applied}
 use Rattle.apply_events.specs.Log.{stateAfter}
@@ -16,7 +16,7 @@ use Rattle.rig_codes.specs.Code.{Case, none, refused, too-long, ofAnswer
 
 -- the log is within the limit and the table is read
 pub record Begun (table log : List ℕ) : Type 0 where
-  pub within : length log ≤ 65536
+  pub within : length log ≤ mostBytes
   pub tabled : readTable table .answer ≡ T.Accepted
 
 -- and the log is read to its end
@@ -26,9 +26,9 @@ pub record Whole (table log : List ℕ) : Type 0 where
 
 pub data Given (table log : List ℕ) : Case → Type 0 where
   -- a log over 65,536 bytes gives 64 before anything else is looked at
-  long : 65536 < length log → Given table log too-long
+  long : mostBytes < length log → Given table log too-long
   -- a table refusal
-  bad-table : length log ≤ 65536 → {n p : ℕ} → readTable table .answer ≡ T.Refused n p → Given table log (refused n)
+  bad-table : length log ≤ mostBytes → {n p : ℕ} → readTable table .answer ≡ T.Refused n p → Given table log (refused n)
   -- and only then a reading refusal: of the record that ended the reading, wherever it stands
   bad-record : Begun table log → {n : ℕ} → readRecord (restOf log) ≡ R.Refused n → Given table log (refused n)
   -- an empty log gives 16

@@ -5,6 +5,7 @@ use Rattle.laws.specs.Stores.{filled}
 use Rattle.table_rules.specs.declared.Answer.{Answer}
 use Rattle.table_rules.specs.declared.Answer.the-variants.{Accepted, Refused}
 use Rattle.table_rules.specs.declared.Table.{Table}
+use Rattle.table_rules.specs.Limits.{placeCount}
 use Rattle.table_rules.specs.Rules.{noTask}
 use Rattle.table_rules.specs.Judging.{judged}
 use Rattle.task_records.specs.declared.Record.{Record}
@@ -17,7 +18,7 @@ abbrev pub recordAt : State → ℕ → Record
 recordAt s i = getD (s .records) i noRecord
 
 abbrev pub noState : State
-noState = record { count = 0; clock = 0; records = replicate 16 noRecord }
+noState = record { count = 0; clock = 0; records = replicate placeCount noRecord }
 
 -- the clock starts at 0
 abbrev pub freshState : Table → State
@@ -25,7 +26,7 @@ freshState t =
     record {
       count = t .count;
       clock = 0;
-      records = filled (λ i. fresh (getD (t .tasks) i noTask)) (t .count) (replicate 16 noRecord);
+      records = filled (λ i. fresh (getD (t .tasks) i noTask)) (t .count) (replicate placeCount noRecord);
     }
 
 abbrev pub startedBy : Answer → Table → Started

@@ -16,22 +16,22 @@ use Rattle.table_rules.specs.Answers.{numberOf}
 use Rattle.table_rules.proofs.Exactly.{counted-tells, accepted-by, one-by, at-by}
 use Rattle.table_rules.proofs.Faults.{First}
 use Rattle.table_reading.proofs.Records.{record-among}
-use Rattle.table_reading.specs.Table.{Whole, recordAt, recordFaultAt, bytesHold, readAnswer}
+use Rattle.table_reading.specs.Table.{Whole, bytesAt, recordFaultAt, bytesHold, readAnswer}
 
 pub whole-tells : (s : List ℕ) → Tells (bytesHold s) (Whole s)
 whole-tells s =
     tells
-    (λ e. let h = both-hold (eqb (length s % 16) 0) (countHolds (length s / 16)) e in record { sixteens = eqb-true _ _ (h .0); counted = counted-tells (length s / 16) .holds (h .1) })
-    (λ r. rw (eq-eqb _ _ (r .sixteens)) (tells-true (counted-tells (length s / 16)) (r .counted)))
+    (λ e. let h = both-hold (eqb (length s % 16) 0) (countHolds (length s / 16)) e in record { records = eqb-true _ _ (h .0); counted = counted-tells (length s / 16) .holds (h .1) })
+    (λ r. rw (eq-eqb _ _ (r .records)) (tells-true (counted-tells (length s / 16)) (r .counted)))
 
 -- reading table bytes: 1, then 2, 3 and 4 record by record (`record-mark` and `record-task` say which)
 module _ (s : List ℕ) where
-  pub length-at : (i : ℕ) → i < length s / 16 → length (recordAt s i) ≡ 16
+  pub length-at : (i : ℕ) → i < length s / 16 → length (bytesAt s i) ≡ 16
   length-at i h = length-take-le 16 (drop (16 * i) s) (rw length-drop (omega arith))
 
   no-one : (i : ℕ) → i < length s / 16 → recordFaultAt s i ≡ 1 → ⊥
   no-one i h =
-      record-among (recordAt s i) (length-at i h) (λ (x : ℕ). x ≡ 1 → ⊥)
+      record-among (bytesAt s i) (length-at i h) (λ (x : ℕ). x ≡ 1 → ⊥)
       (λ e. omega (arith, e)) (λ e. omega (arith, e)) (λ e. omega (arith, e)) (λ e. omega (arith, e))
 
   pub read-accepted : (readAnswer s ≡ Accepted) ↔ (Whole s × ((i : ℕ) → i < length s / 16 → recordFaultAt s i ≡ 0))
@@ -52,7 +52,7 @@ module _ (s : List ℕ) where
     where
       found : First (recordFaultAt s) (length s / 16) x p → (1 ≤ x) × (x ≤ 4)
       found f =
-          let most = record-among (recordAt s p) (length-at p (f .below)) (λ (y : ℕ). y ≤ 4) (omega arith) (omega arith) (omega arith) (omega arith) in
+          let most = record-among (bytesAt s p) (length-at p (f .below)) (λ (y : ℕ). y ≤ 4) (omega arith) (omega arith) (omega arith) (omega arith) in
           (not-zero x (f .some), omega (arith, rw (f .fault) at most))
         where
           not-zero : (y : ℕ) → (y ≡ 0 → ⊥) → 1 ≤ y

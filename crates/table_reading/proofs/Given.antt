@@ -13,7 +13,7 @@ use Rattle.table_rules.specs.Judging.{judged}
 use Rattle.table_rules.specs.Tidy.{Tidy}
 use Rattle.table_rules.proofs.Exactly.{judged-accepted}
 use Rattle.table_reading.specs.Row.{Marked}
-use Rattle.table_reading.specs.Table.{Whole, recordAt, taskFrom, tableOf, readAnswer, readTable}
+use Rattle.table_reading.specs.Table.{Whole, bytesAt, taskFrom, tableOf, readAnswer, readTable}
 use Rattle.table_reading.proofs.Exactly.{read-accepted, length-at}
 use Rattle.table_reading.proofs.Records.{record-task}
 
@@ -38,8 +38,8 @@ module _ (s : List ℕ) (good : readAnswer s ≡ Accepted) where
   pub task-there : (i : ℕ) → i < count s → getD (given s .tasks) i noTask ≡ taskFrom s i
   task-there i h = filled-below (taskFrom s) (replicate 16 noTask) noTask (count s) i (whole .counted .most) h
 
-  pub fault-there : (i : ℕ) → i < count s → Marked (recordAt s i) × (taskFault (taskFrom s i) ≡ 0)
-  fault-there i h = record-task (recordAt s i) (length-at s i h) 0 (λ z. omega (arith, z)) .0 (read-accepted s .0 good .1 i h)
+  pub fault-there : (i : ℕ) → i < count s → Marked (bytesAt s i) × (taskFault (taskFrom s i) ≡ 0)
+  fault-there i h = record-task (bytesAt s i) (length-at s i h) 0 (λ z. omega (arith, z)) .0 (read-accepted s .0 good .1 i h)
 
   pub given-good : judged (given s) ≡ Accepted
   given-good = judged-accepted (given s) .1 (whole .counted, λ i h. rw (task-there i h) (fault-there i h .1))

@@ -12,6 +12,10 @@ use Rattle.table_rules.specs.Rules.{taskFault}
 use Rattle.table_reading.specs.declared.Row.{Row}
 use Rattle.table_reading.specs.declared.Row.the-variants as Row
 
+-- the bytes of a table record
+abbrev pub taskSize : ℕ
+taskSize = 16
+
 -- mark 0x54 0x4B
 pub record Marked (s : List ℕ) : Type 0 where
   pub first : getD s 0 0 ≡ 0x54
@@ -33,7 +37,7 @@ taskOf s =
 
 -- 1 for bytes that are not one record, 2 for the mark, then the task's own
 unfoldable pub recordFault : List ℕ → ℕ
-recordFault s = cond (eqb (length s) 16) (cond (markHolds s) (taskFault (taskOf s)) 2) 1
+recordFault s = cond (eqb (length s) taskSize) (cond (markHolds s) (taskFault (taskOf s)) 2) 1
 
 abbrev pub rowBy : ℕ → Task → Row
 rowBy zero t = Row.Task t

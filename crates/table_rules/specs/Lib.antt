@@ -1,4 +1,5 @@
 -- What the crate's contracts cite, in the rules' order.
+pub mod Limits
 pub mod Rules
 pub mod Answers
 pub mod Judging

@@ -22,7 +22,7 @@ use Rattle.table_rules.specs.declared.Table.{Table}
 use Rattle.table_rules.specs.Rules.{Times, taskFault, noTask}
 use Rattle.table_rules.specs.Judging.{judged}
 use Rattle.table_reading.specs.Row.{Marked, taskOf, recordFault}
-use Rattle.table_reading.specs.Table.{recordAt, taskFrom, readAnswer, readTable}
+use Rattle.table_reading.specs.Table.{bytesAt, taskFrom, readAnswer, readTable}
 use Rattle.table_rules.specs.Tidy.{Tidy}
 use Rattle.table_writing.specs.Writing.{recordOf, recordsOf, writeAnswer, wroteTable, tidied}
 use Rattle.table_rules.proofs.Exactly.{judged-accepted}
@@ -73,13 +73,13 @@ record-of-task r l b m = same-five mark (field 2 (omega arith)) (field 6 (omega 
 -- ---- all records
 
 -- the record at a position behind others, with anything past them
-pub record-in : (ts : List Task) (n : ℕ) (s : List ℕ) (i : ℕ) → i < n → recordAt (recordsOf ts n ++ s) i ≡ recordOf (getD ts i noTask)
+pub record-in : (ts : List Task) (n : ℕ) (s : List ℕ) (i : ℕ) → i < n → bytesAt (recordsOf ts n ++ s) i ≡ recordOf (getD ts i noTask)
 unfolding recordsOf
 record-in ts zero s i h = absurd (not-suc-le-zero h)
 record-in ts (suc n) s i h = go (ℕ-discrete i n) (record-in ts n (recordOf (getD ts n noTask) ++ s) i)
   where
-    go : Dec (i ≡ n) → (i < n → recordAt (recordsOf ts n ++ (recordOf (getD ts n noTask) ++ s)) i ≡ recordOf (getD ts i noTask))
-        → recordAt (recordsOf ts n ++ recordOf (getD ts n noTask) ++ s) i ≡ recordOf (getD ts i noTask)
+    go : Dec (i ≡ n) → (i < n → bytesAt (recordsOf ts n ++ (recordOf (getD ts n noTask) ++ s)) i ≡ recordOf (getD ts i noTask))
+        → bytesAt (recordsOf ts n ++ recordOf (getD ts n noTask) ++ s) i ≡ recordOf (getD ts i noTask)
     go (yes q) k =
         let r = recordOf (getD ts n noTask) in
         rw (q, append-assoc (recordsOf ts n) r s, drop-at (recordsOf ts n) (r ++ s) (16 * n) (length-records ts n)) (take-at r s 16 (length-record (getD ts n noTask)))
@@ -90,7 +90,7 @@ module _ (t : Table) (good : judged t ≡ Accepted) where
   abbrev all : List ℕ
   all = recordsOf (t .tasks) (t .count)
 
-  each : (i : ℕ) → i < t .count → recordAt all i ≡ recordOf (getD (t .tasks) i noTask)
+  each : (i : ℕ) → i < t .count → bytesAt all i ≡ recordOf (getD (t .tasks) i noTask)
   each i h = rw (append-nil) at (record-in (t .tasks) (t .count) [] i h)
 
   sixteenth : length all / 16 ≡ t .count
@@ -100,7 +100,7 @@ module _ (t : Table) (good : judged t ≡ Accepted) where
   all-read =
       let a = judged-accepted t .0 good in
       read-accepted all .1 (
-        record { sixteens = omega (arith, length-records (t .tasks) (t .count)); counted = rw sixteenth (a .0) },
+        record { records = omega (arith, length-records (t .tasks) (t .count)); counted = rw sixteenth (a .0) },
         λ i h. let j : i < t .count = rw sixteenth at h in rw (each i j) (record-fault (getD (t .tasks) i noTask) (a .1 i j)),
       )
 
@@ -155,17 +155,17 @@ module _ (s : List ℕ) (good : readAnswer s ≡ Accepted) where
   front b zero h = refl
   front b (suc n) h =
       let e : 16 * suc n ≡ 16 * n + 16 = omega arith in
-      let r = record-of-task (recordAt s n) (length-at s n h) (take-bytes 16 (drop (16 * n) s) (drop-bytes (16 * n) s b)) (fault-there s good n h .0) in
+      let r = record-of-task (bytesAt s n) (length-at s n h) (take-bytes 16 (drop (16 * n) s) (drop-bytes (16 * n) s b)) (fault-there s good n h .0) in
       rw (front b n (omega arith), task-there s good n h, r, e, take-add (16 * n) 16 s)
 
   again : AreBytes s → recordsOf (given s .tasks) (count s) ≡ s
-  again b = front b (count s) (le-refl (count s)) ∙ take-all (16 * count s) s (omega (arith, whole s good .sixteens))
+  again b = front b (count s) (le-refl (count s)) ∙ take-all (16 * count s) s (omega (arith, whole s good .records))
 
   -- bytes that read, written again, are the same bytes
   pub read-written : AreBytes s → (u : List ℕ) → length s ≤ length u
       → (writeAnswer (readTable s .table) (length u) ≡ Accepted) × (wroteTable (readTable s .table) u ≡ s ++ drop (length s) u)
   unfolding writeAnswer
   read-written b u h =
-      let n : 16 * count s ≡ length s = omega (arith, whole s good .sixteens) in
+      let n : 16 * count s ≡ length s = omega (arith, whole s good .records) in
       let e : writeAnswer (given s) (length u) ≡ Accepted = rw (given-good s good, le-leb (16 * count s) (length u) (omega arith)) in
       rw (given-is s good) (e, write-leaves (given s) u e ∙ rw (again b, n))

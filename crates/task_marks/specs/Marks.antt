@@ -1,13 +1,21 @@
 -- Rules, "Window": the last K closed jobs as marks in a 64-bit word, and a count that 64 bits hold.
 use Prim.Native.Nat.{ℕ, _+_, _-_, _*_, _%_, _^_, min}
 
--- one more, as far as 64 bits count
-abbrev pub countOf : ℕ → ℕ
-countOf n = min (n + 1) (2 ^ 64 - 1)
+-- the marks that a word has room for
+abbrev pub wordPlaces : ℕ
+wordPlaces = 64
 
--- of K marks the oldest makes room; a word has 64
+-- as far as 64 bits count
+abbrev pub mostCount : ℕ
+mostCount = 2 ^ 64 - 1
+
+-- one more, as far as that
+abbrev pub countOf : ℕ → ℕ
+countOf n = min (n + 1) mostCount
+
+-- of K marks the oldest makes room
 abbrev pub keptOf : ℕ → ℕ
-keptOf k = min k 64 - 1
+keptOf k = min k wordPlaces - 1
 
 -- the marks once a job has closed: the newest in the lowest place, 1 for a miss
 abbrev pub pushed : ℕ → ℕ → ℕ → ℕ

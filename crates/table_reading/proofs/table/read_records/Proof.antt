@@ -11,7 +11,7 @@ use Rattle.table_rules.specs.declared.Answer.the-variants.{Accepted}
 use Rattle.table_reading.specs.declared.Row.{Row}
 use Rattle.table_rules.specs.Rules.{noTask}
 use Rattle.table_rules.specs.Judging.{firstFault}
-use Rattle.table_reading.specs.Table.{recordAt, recordFaultAt, taskFrom}
+use Rattle.table_reading.specs.Table.{bytesAt, recordFaultAt, taskFrom}
 use Rattle.table_reading.specs.Row.{readRow}
 use Rattle.table_rules.proofs.Faults.{none-more, found-at}
 use Rattle.table_reading.proofs.Rows.{task-row, refused-row}
@@ -57,7 +57,7 @@ enum-known-row : tie.Need-enum-known-row Inv-loop μ-loop
 enum-known-row c = c .match .keys1
 
 -- the part that is read is the record at i
-part-is : {r : Row} (s : List ℕ) (i : ℕ) → r ≡ readRow (take (16 * i + 16 - 16 * i) (drop (16 * i) s)) → r ≡ readRow (recordAt s i)
+part-is : {r : Row} (s : List ℕ) (i : ℕ) → r ≡ readRow (take (16 * i + 16 - 16 * i) (drop (16 * i) s)) → r ≡ readRow (bytesAt s i)
 part-is s i e = let n : 16 * i + 16 - 16 * i ≡ 16 = omega arith in rw n at e
 
 below : (c : tie.After-known-told Inv-loop μ-loop) → c .before .before .before .before .before .before .loop .i < 16
@@ -84,7 +84,7 @@ returns c =
     let a = d .before .before .before .before .before .before .args in
     let s = a .bytes .now in
     let g = c .before .before .row2 .given in
-    let r = refused-row (recordAt s (l .i)) (g .0 .0) (sym (part-is s (l .i) (d .read-task .ensures)) ∙ g .1) in
+    let r = refused-row (bytesAt s (l .i)) (g .0 .0) (sym (part-is s (l .i) (d .read-task .ensures)) ∙ g .1) in
     let f = found-at (recordFaultAt s) (l .i) (a .count) (d .before .before .loop-test .taken) (l .inv .1 .0) (λ z. r .1 (sym (r .0) ∙ z)) in
     c .refused .ensures ∙ rw (f, r .0)
 
@@ -101,7 +101,7 @@ loop-again c =
     let l = d .before .before .before .loop in
     let s = d .before .before .before .before .before .before .args .bytes .now in
     let g = c .before .row .given in
-    let r = task-row (recordAt s (l .i)) (g .0 .0) (sym (part-is s (l .i) (d .read-task .ensures)) ∙ g .1) in (
+    let r = task-row (bytesAt s (l .i)) (g .0 .0) (sym (part-is s (l .i) (d .read-task .ensures)) ∙ g .1) in (
       omega (arith, d .before .before .loop-test .taken),
       (
         rw add-one (none-more (recordFaultAt s) (l .i) (l .inv .1 .0) (r .0)),
