@@ -2,8 +2,9 @@
 pub mod of_table;
 
 use table_rules::Answer;
+use table_rules::PLACES;
 
 pub struct Row {
     pub answer: Answer,
-    pub cells: [u32; 16],
+    pub cells: [u32; PLACES],
 }

@@ -3,11 +3,13 @@ use super::Row;
 use bound_search::Found;
 use bound_search::search::bound_in;
 use table_rules::Answer;
+use table_rules::PLACES;
 use table_rules::Table;
 use table_rules::rules::judge;
 ghost use mathlib.Core.Path.{_≡_};
 ghost use Prim.Native.Nat.{_≤_};
 ghost use lib.ListN.{length, getD};
+ghost use Rattle.table_rules.specs.Limits.{placeCount};
 ghost use Rattle.laws.specs.Stores.{filled};
 ghost use Rattle.table_rules.specs.declared.Answer.the-variants.{Accepted};
 ghost use Rattle.table_rules.specs.Judging.{judged};
@@ -19,7 +21,7 @@ fn row_of(table: Table) -> Row
     ensures { λ r. ⌜ RowOf table r ⌝ }
 {
     let count = table.count;
-    let mut cells = [0u32; 16];
+    let mut cells = [0u32; PLACES];
     let mut i: usize = 0;
     while i < count {
         let found = bound_in(table, i);
@@ -45,8 +47,8 @@ fn row_of(table: Table) -> Row
     }
 }
 
-fn put(cells: [u32; 16], count: usize, out: &mut [u32])
-    requires { ⌜ (count ≤ 16) × (count ≤ length (now out)) ⌝ }
+fn put(cells: [u32; PLACES], count: usize, out: &mut [u32])
+    requires { ⌜ (count ≤ placeCount) × (count ≤ length (now out)) ⌝ }
     ensures { λ _. ⌜ now (out .exit) ≡ filled (λ i. getD cells i 0) count (now (out .entry)) ⌝ }
 {
     let mut i: usize = 0;

@@ -1,10 +1,13 @@
 // The tasks above a task, gathered for the search: the order, the cost and the spacing are looked at here and nowhere else.
 use super::Load;
 use super::Part;
+use table_rules::MOST_TASKS;
+use table_rules::PLACES;
 use table_rules::Table;
 use table_rules::Task;
 ghost use mathlib.Core.Path.{_≡_};
 ghost use Prim.Native.Nat.{_<_};
+ghost use Rattle.table_rules.specs.Limits.{placeCount};
 ghost use Rattle.bound_demand.specs.Above.{isAbove};
 ghost use Rattle.bound_demand.specs.Demand.{costOf, spacingOf};
 ghost use Rattle.bound_demand.specs.Load.{partFor, emptyLoad, loadAt};
@@ -23,7 +26,7 @@ fn spacing(task: Task) -> u32
 
 // Smaller D, or equal D and smaller position.
 fn is_above(table: Table, i: usize, k: usize) -> bool
-    requires { ⌜ (i < 16) × (k < 16) ⌝ }
+    requires { ⌜ (i < placeCount) × (k < placeCount) ⌝ }
     ensures { λ r. ⌜ r ≡ isAbove table i k ⌝ }
 {
     let upper = table.tasks[i].d;
@@ -55,7 +58,7 @@ fn empty(own: u32) -> Load
         cost: 0,
         spacing: 0,
     };
-    let parts = [none; 16];
+    let parts = [none; PLACES];
     Load {
         own: own,
         count: 0,
@@ -63,12 +66,12 @@ fn empty(own: u32) -> Load
     }
 }
 
-// All zeros where the table has over 16 tasks, or no task at k.
+// All zeros where the table has too many tasks, or no task at k.
 pub fn load_of(table: Table, k: usize) -> Load
     ensures { λ r. ⌜ r ≡ loadAt table k ⌝ }
 {
     let count = table.count;
-    if 16 < count {
+    if MOST_TASKS < count {
         return empty(0);
     }
     if count <= k {

@@ -1,6 +1,8 @@
 // The demand of the response bound: the tasks above a task, and what they ask for in a stretch of ticks.
 pub mod above;
 
+use table_rules::PLACES;
+
 // What a task above takes in a stretch: its cost for each spacing that the stretch begins.
 pub struct Part {
     pub cost: u32,
@@ -11,5 +13,5 @@ pub struct Part {
 pub struct Load {
     pub own: u32,
     pub count: usize,
-    pub parts: [Part; 16],
+    pub parts: [Part; PLACES],
 }

@@ -3,16 +3,18 @@ use bound_one::Bound;
 use state_rules::State;
 use state_rules::sound::is_sound;
 use table_rules::Answer;
+use table_rules::PLACES;
 use table_rules::Table;
 use table_rules::Task;
 ghost use mathlib.Core.Path.{_≡_};
 ghost use Prim.Native.Nat.{_≤_};
 ghost use lib.ListN.{length};
+ghost use Rattle.table_rules.specs.Limits.{placeCount};
 ghost use Rattle.bound_of_state.specs.Asked.{tableIn, oneOfState, allOfState, cellsOfState};
 
 // The table that the state's tasks make, with zeros past the last one.
 fn table_of(state: State) -> Table
-    requires { ⌜ state .count ≤ 16 ⌝ }
+    requires { ⌜ state .count ≤ placeCount ⌝ }
     ensures { λ r. ⌜ r ≡ tableIn state ⌝ }
 {
     let none = Task {
@@ -22,7 +24,7 @@ fn table_of(state: State) -> Table
         m: 0,
         k: 0,
     };
-    let tasks = [none; 16];
+    let tasks = [none; PLACES];
     let count = state.count;
     let mut table = Table {
         count: count,

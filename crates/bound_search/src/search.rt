@@ -6,6 +6,7 @@ use bound_demand::above::load_of;
 use table_rules::Table;
 ghost use mathlib.Core.Path.{_≡_};
 ghost use Prim.Native.Nat.{_*_, _<_, _≤_};
+ghost use Rattle.table_rules.specs.Limits.{longestT};
 ghost use Rattle.table_rules.specs.declared.Answer.the-variants.{Accepted};
 ghost use Rattle.table_rules.specs.Judging.{judged};
 ghost use Rattle.bound_demand.specs.Demand.{partOf};
@@ -14,8 +15,8 @@ ghost use Rattle.bound_demand.specs.Load.{Ready, loadDemand};
 ghost use Rattle.bound_search.specs.Bound.{boundOf};
 
 fn part_of(part: Part, r: u64) -> u64
-    requires { ⌜ (1 ≤ part .spacing) × (r ≤ 1000000) ⌝ }
-    ensures { λ x. ⌜ (x ≡ partOf (part .cost) (part .spacing) r) × (x ≤ 1000000 * 4294967295) ⌝ }
+    requires { ⌜ (1 ≤ part .spacing) × (r ≤ longestT) ⌝ }
+    ensures { λ x. ⌜ (x ≡ partOf (part .cost) (part .spacing) r) × (x ≤ longestT * 4294967295) ⌝ }
 {
     let cost = part.cost as u64;
     let spacing = part.spacing as u64;
@@ -23,7 +24,7 @@ fn part_of(part: Part, r: u64) -> u64
 }
 
 fn demand(load: Load, r: u64) -> u64
-    requires { ⌜ (Ready load) × (r ≤ 1000000) ⌝ }
+    requires { ⌜ (Ready load) × (r ≤ longestT) ⌝ }
     ensures { λ x. ⌜ x ≡ loadDemand load r ⌝ }
 {
     let own = load.own as u64;
@@ -38,7 +39,7 @@ fn demand(load: Load, r: u64) -> u64
 }
 
 fn search(load: Load, deadline: u32) -> Found
-    requires { ⌜ (Ready load) × (deadline ≤ 1000000) ⌝ }
+    requires { ⌜ (Ready load) × (deadline ≤ longestT) ⌝ }
     ensures { λ x. ⌜ x ≡ firstFit (loadDemand load) deadline ⌝ }
 {
     let limit = deadline as u64;

@@ -1,11 +1,13 @@
 // A log is records of events one behind another: what of it reads, and what is left.
+use event_reading::EVENT_SIZE;
 use event_reading::Reading;
 use event_reading::read;
 ghost use mathlib.Core.Path.{_≡_};
-ghost use Prim.Native.Nat.{_*_};
-ghost use lib.ListN.{drop};
-ghost use Rattle.event_logs.specs.Log.{readable, readAt};
+ghost use Rattle.event_logs.specs.Log.{readable, readAt, restOf};
 ghost use Rattle.event_logs.specs.Ending.{endedBy};
+
+// The most bytes of a log that the bench rig looks at, and of an input that is listed.
+pub const MOST_BYTES: usize = 65536;
 
 // What ended the reading of a log.
 pub enum Ending {
@@ -30,14 +32,14 @@ pub fn ended(got: Reading, offset: usize) -> Ending
 
 // The part of a log that was not read: it is empty, or begins with the first record that does not read.
 pub fn rest(log: &[u8]) -> &[u8]
-    ensures { λ r. ⌜ now r ≡ drop (20 * readable (now (log .entry))) (now (log .entry)) ⌝ }
+    ensures { λ r. ⌜ now r ≡ restOf (now (log .entry)) ⌝ }
 {
     let mut at: usize = 0;
     loop {
         let Reading::Event(_) = read(&log[at..]) else {
             return &log[at..];
         };
-        at += 20;
+        at += EVENT_SIZE;
     }
 }
 
@@ -46,16 +48,16 @@ pub fn count(log: &[u8]) -> usize
     ensures { λ r. ⌜ r ≡ readable (now (log .entry)) ⌝ }
 {
     let left = rest(log);
-    (log.len() - left.len()) / 20
+    (log.len() - left.len()) / EVENT_SIZE
 }
 
 // What reading says at record i of a log; past the end it is the end.
 pub fn event_at(log: &[u8], i: usize) -> Reading
     ensures { λ r. ⌜ r ≡ readAt (now (log .entry)) i ⌝ }
 {
-    // 20 * i is made only where it is within the log, so that it cannot wrap.
-    if i <= log.len() / 20 {
-        let at = 20 * i;
+    // The product is made only where it is within the log, so that it cannot wrap.
+    if i <= log.len() / EVENT_SIZE {
+        let at = EVENT_SIZE * i;
         return read(&log[at..]);
     }
     Reading::End

@@ -3,13 +3,16 @@ ghost use mathlib.Core.Path.{_≡_};
 ghost use Prim.Native.Nat.{_≤_};
 ghost use lib.ListN.{length};
 ghost use Rattle.event_reading.specs.Event.{faultOf};
-ghost use Rattle.event_reading.specs.Record.{eventOf, readRecord};
+ghost use Rattle.event_reading.specs.Record.{eventSize, eventOf, readRecord};
 
 pub const TICK: u8 = 0;
 
 pub const RELEASE: u8 = 1;
 
 pub const COMPLETION: u8 = 2;
+
+// The bytes of an event record.
+pub const EVENT_SIZE: usize = 20;
 
 // An event holds the numbers of its record, so a value too can break 7 or 8.
 pub struct Event {
@@ -53,7 +56,7 @@ pub fn judge(event: Event) -> u8
 
 // The four numbers of a record, whatever its mark.
 fn fields(bytes: &[u8]) -> Event
-    requires { ⌜ 20 ≤ length (now bytes) ⌝ }
+    requires { ⌜ eventSize ≤ length (now bytes) ⌝ }
     ensures { λ r. ⌜ r ≡ eventOf (now (bytes .entry)) ⌝ }
 {
     let job = number_reading::get64(&bytes[4..12]);
@@ -74,7 +77,7 @@ pub fn read(bytes: &[u8]) -> Reading
     if size == 0 {
         return Reading::End;
     }
-    if size < 20 {
+    if size < EVENT_SIZE {
         return Reading::Refused(5);
     }
     if bytes[0] != 0x45 {

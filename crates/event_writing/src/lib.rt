@@ -1,10 +1,12 @@
 // Writing the record of an event: the value's own refusal, then 14; bytes past the record stay, and a refused write leaves all.
+use event_reading::EVENT_SIZE;
 use event_reading::Event;
 use event_reading::judge;
 ghost use mathlib.Core.Path.{_≡_};
 ghost use mathlib.Core.List.{_++_};
 ghost use Prim.Native.Nat.{_+_, _≤_};
 ghost use lib.ListN.{length, take, drop};
+ghost use Rattle.event_reading.specs.Record.{eventSize};
 ghost use Rattle.number_writing.specs.Bytes.{bytes};
 ghost use Rattle.event_writing.specs.Writing.{headOf, recordOf, wroteRecord, afterWrite};
 
@@ -35,8 +37,8 @@ fn put_number(out: &mut [u8], at: usize, x: u64)
 
 // Stores the record of an event; there is room for it.
 fn store(event: Event, out: &mut [u8])
-    requires { ⌜ 20 ≤ length (now out) ⌝ }
-    ensures { λ _. ⌜ now (out .exit) ≡ recordOf event ++ drop 20 (now (out .entry)) ⌝ }
+    requires { ⌜ eventSize ≤ length (now out) ⌝ }
+    ensures { λ _. ⌜ now (out .exit) ≡ recordOf event ++ drop eventSize (now (out .entry)) ⌝ }
 {
     put_head(out, event.kind, event.task);
     put_number(out, 4, event.job);
@@ -51,7 +53,7 @@ pub fn write(event: Event, out: &mut [u8]) -> Writing
     if broken != 0 {
         return Writing::Refused(broken);
     }
-    if out.len() < 20 {
+    if out.len() < EVENT_SIZE {
         return Writing::Refused(14);
     }
     store(event, out);

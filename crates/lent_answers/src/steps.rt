@@ -8,6 +8,7 @@ use apply_ruling::judging::seat;
 use event_reading::Event;
 use state_choice::Best;
 use state_rules::State;
+use table_rules::PLACES;
 use table_rules::Task;
 use task_records::Record;
 ghost use mathlib.Core.Path.{_≡_};
@@ -78,7 +79,7 @@ pub fn refused_turn(ruling: Ruling, clock: u64) -> Turn
 }
 
 // The row behind the count comes back to its state.
-pub fn placed(turn: Turn, count: usize, records: [Record; 16]) -> Applied
+pub fn placed(turn: Turn, count: usize, records: [Record; PLACES]) -> Applied
     ensures { λ r. ⌜ r ≡ placedBy turn count records ⌝ }
 {
     let answer = turn.answer;

@@ -15,10 +15,12 @@ use lent_records::choice::choose_in;
 use lent_records::expiry::expire_all_in;
 use lent_records::sound::is_sound_in;
 use state_rules::State;
+use table_rules::PLACES;
 use task_records::Record;
 ghost use mathlib.Core.Path.{_≡_};
 ghost use Prim.Native.Nat.{_≤_, _<_};
 ghost use lib.ListN.{length};
+ghost use Rattle.table_rules.specs.Limits.{placeCount};
 ghost use Rattle.apply_events.specs.Apply.{applied};
 ghost use Rattle.lent_records.specs.Row.{stateOf};
 ghost use Rattle.lent_answers.specs.Turns.{ruledRow, settledRow, rowAnswer};
@@ -63,8 +65,8 @@ pub fn apply_in(row: &mut [Record], clock: u64, event: Event) -> Turn
 }
 
 // The first records of an array are lent, and what lies behind them stays.
-fn apply_front(records: [Record; 16], count: usize, clock: u64, event: Event) -> Applied
-    requires { ⌜ count ≤ 16 ⌝ }
+fn apply_front(records: [Record; PLACES], count: usize, clock: u64, event: Event) -> Applied
+    requires { ⌜ count ≤ placeCount ⌝ }
     ensures { λ r. ⌜ r ≡ applied (record { count = count; clock = clock; records = records }) event ⌝ }
 {
     let mut row = records;
@@ -76,7 +78,7 @@ fn apply_front(records: [Record; 16], count: usize, clock: u64, event: Event) ->
 pub fn apply_of(state: State, event: Event) -> Applied
     ensures { λ r. ⌜ r ≡ applied state event ⌝ }
 {
-    if 16 < state.count {
+    if PLACES < state.count {
         return Applied {
             answer: Answer::Refused(15),
             state: state,

@@ -1,9 +1,11 @@
 // The choice is made over a lent row of task records, of any length.
 use state_choice::Best;
 use state_choice::better_of;
+use table_rules::PLACES;
 use task_records::Record;
 ghost use mathlib.Core.Path.{_≡_};
 ghost use lib.ListN.{length};
+ghost use Rattle.table_rules.specs.Limits.{placeCount};
 ghost use Rattle.state_choice.specs.Choice.{none, bestTo};
 
 // No job is chosen where none is passed.
@@ -30,8 +32,8 @@ pub fn choose_in(row: &[Record]) -> Best
 }
 
 // The same over an array by value, which is lent to it: whoever calls it needs no walk.
-pub fn choose_of(records: [Record; 16]) -> Best
-    ensures { λ r. ⌜ r ≡ bestTo records 16 ⌝ }
+pub fn choose_of(records: [Record; PLACES]) -> Best
+    ensures { λ r. ⌜ r ≡ bestTo records placeCount ⌝ }
 {
     choose_in(&records)
 }

@@ -1,4 +1,6 @@
 // What the judging of a lent row asks of its length and of one record, on values.
+use state_rules::LIMIT;
+use table_rules::MOST_TASKS;
 use task_records::Record;
 use task_soundness::sound;
 ghost use mathlib.Core.Path.{_≡_};
@@ -13,10 +15,10 @@ pub fn admits(count: usize, clock: u64) -> bool
     if count < 1 {
         return false;
     }
-    if 16 < count {
+    if MOST_TASKS < count {
         return false;
     }
-    clock <= 1000000000000
+    clock <= LIMIT
 }
 
 pub fn sound_on(before: bool, of: Record, clock: u64) -> bool

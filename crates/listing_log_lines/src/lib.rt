@@ -2,6 +2,7 @@
 use apply_engine::apply::apply;
 use event_logs::Ending;
 use event_logs::ended;
+use event_reading::EVENT_SIZE;
 use event_reading::Reading;
 use event_reading::read;
 use state_rules::State;
@@ -42,7 +43,7 @@ pub fn each_event(out: &mut [u8], at: usize, first: State, log: &[u8]) -> Ended
         i += 1;
         let said = done.answer;
         place = listing_event_line::event(out, place, i, said);
-        from += 20;
+        from += EVENT_SIZE;
     }
 }
 

@@ -1,7 +1,10 @@
 // The listing of every input: the input taken apart, and the whole text in lent bytes.
+use event_logs::MOST_BYTES;
 use listing_of_table::of_table;
 use listing_refusal_line::refused;
 use listing_refusal_line::too_long;
+use table_reading::TASK_SIZE;
+use table_rules::MOST_TASKS;
 use text_writing::words;
 ghost use mathlib.Core.Path.{_≡_};
 ghost use lib.ListN.{length};
@@ -24,7 +27,7 @@ fn wide(byte: u8) -> usize
     byte as usize
 }
 
-// Where the events begin: behind the byte n and n table records. 0 where n is not 1 to 16 or not all of them are there.
+// Where the events begin: behind the byte n and n table records. 0 where n is no count of tasks or not all of them are there.
 fn events_from(input: &[u8]) -> usize
     ensures { λ r. ⌜ r ≡ eventsFrom (now (input .entry)) ⌝ }
 {
@@ -36,10 +39,10 @@ fn events_from(input: &[u8]) -> usize
     if n < 1 {
         return 0;
     }
-    if 16 < n {
+    if MOST_TASKS < n {
         return 0;
     }
-    let from = 1 + 16 * n;
+    let from = 1 + TASK_SIZE * n;
     if size < from {
         return 0;
     }
@@ -49,7 +52,7 @@ fn events_from(input: &[u8]) -> usize
 fn written(out: &mut [u8], input: &[u8]) -> usize
     ensures { λ r. ⌜ sheet (now (out .exit)) r ≡ puts (sheet (now (out .entry)) 0) (listingOf (now (input .entry))) ⌝ }
 {
-    if 65536 < input.len() {
+    if MOST_BYTES < input.len() {
         return too_long(out, 0);
     }
     let from = events_from(input);

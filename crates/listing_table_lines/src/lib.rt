@@ -5,12 +5,13 @@ use state_rules::choice::places;
 use table_rules::Table;
 ghost use mathlib.Core.Path.{_≡_};
 ghost use Prim.Native.Nat.{min};
+ghost use Rattle.table_rules.specs.Limits.{placeCount};
 ghost use Rattle.text_writing.specs.Sheet.{sheet, puts};
 ghost use Rattle.listing_text.specs.TableLines.{taskLines, lastLines};
 
 // One line per task, with its bound.
 pub fn tasks(out: &mut [u8], at: usize, table: Table) -> usize
-    ensures { λ r. ⌜ sheet (now (out .exit)) r ≡ puts (sheet (now (out .entry)) at) (taskLines table (min (table .count) 16)) ⌝ }
+    ensures { λ r. ⌜ sheet (now (out .exit)) r ≡ puts (sheet (now (out .entry)) at) (taskLines table (min (table .count) placeCount)) ⌝ }
 {
     let count = places(table.count);
     let mut place = at;
@@ -25,7 +26,7 @@ pub fn tasks(out: &mut [u8], at: usize, table: Table) -> usize
 
 // One line per task, as the events have left it.
 pub fn ends(out: &mut [u8], at: usize, state: State, count: usize) -> usize
-    ensures { λ r. ⌜ sheet (now (out .exit)) r ≡ puts (sheet (now (out .entry)) at) (lastLines state (min count 16)) ⌝ }
+    ensures { λ r. ⌜ sheet (now (out .exit)) r ≡ puts (sheet (now (out .entry)) at) (lastLines state (min count placeCount)) ⌝ }
 {
     let most = places(count);
     let mut place = at;

@@ -1,4 +1,5 @@
 // The bench rig: one function for C callers, over table bytes and log bytes. include/brumerola.h declares it.
+use event_logs::MOST_BYTES;
 use rig_log_code::log_code;
 use rig_log_code::refusal;
 ghost use mathlib.Core.Path.{_≡_};
@@ -8,7 +9,7 @@ ghost use Rattle.rig_codes.specs.Code.{codeOf};
 pub extern "C" fn brumerola_choice(table: &[u8], log: &[u8]) -> u32
     ensures { λ r. ⌜ r ≡ codeOf (now (table .entry)) (now (log .entry)) ⌝ }
 {
-    if 65536 < log.len() {
+    if MOST_BYTES < log.len() {
         return 64;
     }
     let read = table_reading::table::read(table);

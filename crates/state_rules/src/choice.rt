@@ -2,15 +2,17 @@
 use super::State;
 use state_choice::Best;
 use state_choice::better_of;
+use table_rules::PLACES;
 ghost use mathlib.Core.Path.{_≡_};
 ghost use Prim.Native.Nat.{min};
+ghost use Rattle.table_rules.specs.Limits.{placeCount};
 ghost use Rattle.state_rules.specs.Choice.{chosen};
 
-// A state has 16 places, and so has a table, whatever it counts.
+// A state has no more places, nor has a table, whatever it counts.
 pub fn places(count: usize) -> usize
-    ensures { λ r. ⌜ r ≡ min count 16 ⌝ }
+    ensures { λ r. ⌜ r ≡ min count placeCount ⌝ }
 {
-    if 16 < count { 16 } else { count }
+    if PLACES < count { PLACES } else { count }
 }
 
 pub fn choose(state: State) -> Best

@@ -2,6 +2,7 @@
 use super::Started;
 use super::State;
 use table_rules::Answer;
+use table_rules::PLACES;
 use table_rules::Table;
 use table_rules::Task;
 use table_rules::rules::judge;
@@ -9,6 +10,7 @@ use task_records::Record;
 use task_steps::opening::fresh_of;
 ghost use mathlib.Core.Path.{_≡_};
 ghost use Prim.Native.Nat.{_≤_};
+ghost use Rattle.table_rules.specs.Limits.{placeCount};
 ghost use Rattle.task_steps.specs.Opening.{noRecord};
 ghost use Rattle.state_rules.specs.State.{noState, freshState, started};
 
@@ -40,7 +42,7 @@ fn no_state() -> State
     ensures { λ r. ⌜ r ≡ noState ⌝ }
 {
     let none = no_record();
-    let records = [none; 16];
+    let records = [none; PLACES];
     State {
         count: 0,
         clock: 0,
@@ -49,7 +51,7 @@ fn no_state() -> State
 }
 
 fn filled_by(table: Table) -> State
-    requires { ⌜ table .count ≤ 16 ⌝ }
+    requires { ⌜ table .count ≤ placeCount ⌝ }
     ensures { λ r. ⌜ r ≡ freshState table ⌝ }
 {
     let count = table.count;

@@ -3,12 +3,16 @@ pub mod choice;
 pub mod fresh;
 pub mod sound;
 
+use table_rules::PLACES;
 use task_records::Record;
+
+// The limit of time, in ticks.
+pub const LIMIT: u64 = 1000000000000;
 
 pub struct State {
     pub count: usize,
     pub clock: u64,
-    pub records: [Record; 16],
+    pub records: [Record; PLACES],
 }
 
 // The state beside the answer: no tasks where the table is refused.

@@ -1,5 +1,7 @@
 // Whether a state is sound: the rules' clauses, over the tasks that it counts.
+use super::LIMIT;
 use super::State;
+use table_rules::MOST_TASKS;
 use task_soundness::sound;
 ghost use mathlib.Core.Path.{_≡_};
 ghost use Rattle.state_rules.specs.Sound.{stateHolds};
@@ -11,10 +13,10 @@ pub fn is_sound(state: State) -> bool
     if count < 1 {
         return false;
     }
-    if 16 < count {
+    if MOST_TASKS < count {
         return false;
     }
-    if 1000000000000 < state.clock {
+    if LIMIT < state.clock {
         return false;
     }
     let mut i: usize = 0;

@@ -6,6 +6,9 @@ use table_rules::Answer;
 use table_rules::Table;
 use table_rules::Task;
 
+// The bytes of a table record.
+pub const TASK_SIZE: usize = 16;
+
 // What one table record reads as.
 pub enum Row {
     Task(Task),

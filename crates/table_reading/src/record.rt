@@ -1,19 +1,20 @@
-// One table record: its 16 bytes, and what they read as. 2, then the task's own 3 and 4.
+// One table record: its bytes, and what they read as. 2, then the task's own 3 and 4.
 use super::Row;
+use super::TASK_SIZE;
 use table_rules::Task;
 use table_rules::rules::judge_task;
 ghost use mathlib.Core.Path.{_≡_};
 ghost use lib.ListN.{length};
-ghost use Rattle.table_reading.specs.Row.{taskOf, readRow};
+ghost use Rattle.table_reading.specs.Row.{taskSize, taskOf, readRow};
 
-// The caller's 16 bytes, so that the fields are taken from a copy.
-fn copied(bytes: &[u8]) -> [u8; 16]
-    requires { ⌜ length (now bytes) ≡ 16 ⌝ }
+// The caller's bytes, so that the fields are taken from a copy.
+fn copied(bytes: &[u8]) -> [u8; TASK_SIZE]
+    requires { ⌜ length (now bytes) ≡ taskSize ⌝ }
     ensures { λ r. ⌜ r ≡ now (bytes .entry) ⌝ }
 {
-    let mut copy = [0u8; 16];
+    let mut copy = [0u8; TASK_SIZE];
     let mut i: usize = 0;
-    while i < 16 {
+    while i < TASK_SIZE {
         copy[i] = bytes[i];
         i += 1;
     }
@@ -21,7 +22,7 @@ fn copied(bytes: &[u8]) -> [u8; 16]
 }
 
 fn task_of(row: &[u8]) -> Task
-    requires { ⌜ length (now row) ≡ 16 ⌝ }
+    requires { ⌜ length (now row) ≡ taskSize ⌝ }
     ensures { λ r. ⌜ r ≡ taskOf (now (row .entry)) ⌝ }
 {
     Task {
@@ -36,7 +37,7 @@ fn task_of(row: &[u8]) -> Task
 pub fn read_task(bytes: &[u8]) -> Row
     ensures { λ r. ⌜ r ≡ readRow (now (bytes .entry)) ⌝ }
 {
-    if bytes.len() != 16 {
+    if bytes.len() != TASK_SIZE {
         return Row::Refused(1);
     }
     let copy = copied(bytes);

@@ -1,15 +1,20 @@
 // Reading table bytes: 1 first, then record by record 2, 3, 4.
 use super::Row;
+use super::TASK_SIZE;
 use super::TableRead;
 use super::record::read_task;
 use table_rules::Answer;
+use table_rules::MOST_TASKS;
+use table_rules::PLACES;
 use table_rules::Table;
 use table_rules::Task;
 ghost use mathlib.Core.Path.{_≡_};
 ghost use Prim.Native.Nat.{_*_, _≤_};
 ghost use lib.ListN.{length};
+ghost use Rattle.table_rules.specs.Limits.{mostTasks};
 ghost use Rattle.table_rules.specs.declared.Answer.the-variants.{Refused};
 ghost use Rattle.table_rules.specs.Judging.{firstFault};
+ghost use Rattle.table_reading.specs.Row.{taskSize};
 ghost use Rattle.table_reading.specs.Table.{recordFaultAt, noTable, tableOf, beside, readTable};
 
 fn no_table() -> Table
@@ -22,7 +27,7 @@ fn no_table() -> Table
         m: 0,
         k: 0,
     };
-    let tasks = [none; 16];
+    let tasks = [none; PLACES];
     Table {
         count: 0,
         tasks: tasks,
@@ -43,15 +48,15 @@ fn refused(number: u8, position: usize) -> TableRead
 }
 
 fn read_records(bytes: &[u8], count: usize) -> TableRead
-    requires { ⌜ (count ≤ 16) × (length (now bytes) ≡ 16 * count) ⌝ }
+    requires { ⌜ (count ≤ mostTasks) × (length (now bytes) ≡ taskSize * count) ⌝ }
     ensures { λ r. ⌜ r ≡ beside (firstFault (recordFaultAt (now (bytes .entry))) count) (tableOf (now (bytes .entry)) count) ⌝ }
 {
     let mut table = no_table();
     table.count = count;
     let mut i: usize = 0;
     while i < count {
-        let at = 16 * i;
-        let end = at + 16;
+        let at = TASK_SIZE * i;
+        let end = at + TASK_SIZE;
         let row = read_task(&bytes[at..end]);
         match row {
             Row::Task(task) => {
@@ -73,14 +78,14 @@ pub fn read(bytes: &[u8]) -> TableRead
     ensures { λ r. ⌜ r ≡ readTable (now (bytes .entry)) ⌝ }
 {
     let size = bytes.len();
-    if size % 16 != 0 {
+    if size % TASK_SIZE != 0 {
         return refused(1, 0);
     }
-    let count = size / 16;
+    let count = size / TASK_SIZE;
     if count < 1 {
         return refused(1, 0);
     }
-    if 16 < count {
+    if MOST_TASKS < count {
         return refused(1, 0);
     }
     read_records(bytes, count)

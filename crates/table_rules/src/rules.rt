@@ -1,7 +1,10 @@
 // Judging a task and a table: the first rule that is broken, by the rules' number.
 use super::Answer;
+use super::LONGEST_T;
+use super::MOST_TASKS;
 use super::Table;
 use super::Task;
+use super::WIDEST_K;
 ghost use mathlib.Core.Path.{_≡_};
 ghost use Rattle.table_rules.specs.Rules.{timesHold, missesHold, taskFault};
 ghost use Rattle.table_rules.specs.Judging.{judged};
@@ -18,7 +21,7 @@ fn times_hold(task: Task) -> bool
     if task.t < task.d {
         return false;
     }
-    task.t <= 1000000
+    task.t <= LONGEST_T
 }
 
 fn misses_hold(task: Task) -> bool
@@ -27,7 +30,7 @@ fn misses_hold(task: Task) -> bool
     if task.k < 1 {
         return false;
     }
-    if 64 < task.k {
+    if WIDEST_K < task.k {
         return false;
     }
     if task.k <= task.m {
@@ -62,7 +65,7 @@ pub fn judge(table: Table) -> Answer
             position: 0,
         };
     }
-    if 16 < count {
+    if MOST_TASKS < count {
         return Answer::Refused {
             number: 1,
             position: 0,

@@ -6,23 +6,26 @@ ghost use mathlib.Core.Path.{_≡_};
 ghost use Prim.Native.Nat.{_<_, _^_};
 ghost use lib.Count.{ones};
 ghost use Rattle.laws.specs.Numbers.{oneIf};
-ghost use Rattle.task_marks.specs.Marks.{keptOf, pushed};
+ghost use Rattle.task_marks.specs.Marks.{wordPlaces, keptOf, pushed};
 
-// How many of the old marks stay before a new one comes: K - 1, and at most 63.
+// The marks that a word has room for.
+const WORD_PLACES: u8 = 64;
+
+// How many of the old marks stay before a new one comes: K - 1, as far as the word has room.
 fn kept(k: u8) -> u32
-    ensures { λ r. ⌜ (r ≡ keptOf k) × (r < 64) ⌝ }
+    ensures { λ r. ⌜ (r ≡ keptOf k) × (r < wordPlaces) ⌝ }
 {
     if k < 1 {
         return 0;
     }
-    if 64 < k {
+    if WORD_PLACES < k {
         return 63;
     }
     (k - 1) as u32
 }
 
 fn power(e: u32) -> u64
-    requires { ⌜ e < 64 ⌝ }
+    requires { ⌜ e < wordPlaces ⌝ }
     ensures { λ r. ⌜ r ≡ 2 ^ e ⌝ }
 {
     1u64 << e
