@@ -1,11 +1,10 @@
 -- Rules, "Order of refusals", where all are asked of a table: the table's own refusal, then 14, then 13 at the first position that has none.
 -- The output holds one number per task, cells past the count stay, and a refusal leaves all.
-use Prim.Native.Nat.{ℕ, _<_}
-use mathlib.Core.Path.{_≡_}
+use Prim.Native.Nat.{ℕ}
 use mathlib.Core.Bool.{cond}
 use mathlib.Core.List.{List}
 use lib.Dec.{leb}
-use lib.ListN.{length, getD}
+use lib.ListN.{length}
 use Rattle.laws.specs.Stores.{filled}
 use Rattle.table_rules.specs.declared.Table.{Table}
 use Rattle.table_rules.specs.declared.Answer.{Answer}
@@ -13,7 +12,6 @@ use Rattle.table_rules.specs.declared.Answer.the-variants as Answer
 use Rattle.table_rules.specs.Judging.{judged, firstFault}
 use Rattle.bound_search.specs.Answers.{foundNumber, foundValue}
 use Rattle.bound_search.specs.Bound.{boundOf}
-use Rattle.bound_all.specs.declared.Row.{Row}
 
 -- the table's own refusal comes first
 abbrev pub ownThenAll : Answer → Answer → Answer
@@ -39,8 +37,3 @@ leftBy (Answer.Refused n p) t cells = cells
 
 unfoldable pub allCells : Table → List ℕ → List ℕ
 allCells t cells = leftBy (allAnswer t (length cells)) t cells
-
--- all bounds worked out: 13 at the first position that has none, else a bound in each cell
-pub record RowOf (t : Table) (r : Row) : Type 0 where
-  pub answer : r .answer ≡ firstFault (boundFault t) (t .count)
-  pub cells : r .answer ≡ Answer.Accepted → (i : ℕ) → i < t .count → getD (r .cells) i 0 ≡ boundCell t i

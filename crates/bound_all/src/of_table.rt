@@ -13,7 +13,8 @@ ghost use Rattle.table_rules.specs.Limits.{placeCount};
 ghost use Rattle.laws.specs.Stores.{filled};
 ghost use Rattle.table_rules.specs.declared.Answer.the-variants.{Accepted};
 ghost use Rattle.table_rules.specs.Judging.{judged};
-ghost use Rattle.bound_all.specs.Asked.{allAnswer, allCells, RowOf};
+ghost use Rattle.bound_all.specs.Asked.{allAnswer, allCells};
+ghost use Rattle.bound_all.specs.Row.{RowOf};
 
 // All bounds at once, before any lent cell is written.
 fn row_of(table: Table) -> Row
