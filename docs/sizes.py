@@ -34,7 +34,7 @@ def row(name):
 def main(words):
     took = seconds(words[0]) if words else {}
     heads = ["seconds"] * bool(took) + ["functions", "code", "definitions", "proof", "edits"]
-    rows = {name: [took[name]] * bool(took) + row(name) for name in ORDER}
+    rows = {name: [took.get(name, 0)] * bool(took) + row(name) for name in ORDER}
     rows["all"] = [sum(column) for column in zip(*rows.values())]
     print(f"| crate | {' | '.join(heads)} |\n|{'---|' * (len(heads) + 1)}")
     for name, numbers in rows.items():
