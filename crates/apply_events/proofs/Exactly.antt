@@ -1,7 +1,7 @@
 -- Each refusal of an event is given exactly when the rules say, and an event is accepted exactly when none is: what happened is a row of
 -- the table, and a row's number is the one that the ruling computes.
 use Prim.Native.Nat.{ℕ, _<_}
-use mathlib.Core.Path.{_≡_, refl, sym, ap, _∙_}
+use mathlib.Core.Path.{_≡_, refl, sym, _∙_}
 use mathlib.Core.Bool.{Bool, true, false, cond}
 use mathlib.Core.Logic.{_↔_}
 use native.Mathlib.Omega.{arith}

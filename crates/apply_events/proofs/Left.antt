@@ -2,7 +2,6 @@
 -- states that they say are the same, place by place.
 use Prim.Native.Nat.{ℕ, _≤_, _<_}
 use mathlib.Core.Path.{_≡_, refl, sym, ap, subst, _∙_}
-use mathlib.Core.Bool.{true}
 use mathlib.Core.Logic.{_⊎_, inl, inr, _↔_}
 use native.Mathlib.Decide.{ℕ-discrete, decLt}
 use native.Mathlib.Omega.{arith}
@@ -11,9 +10,7 @@ use lib.Seq.{ext-getD}
 use Rattle.event_reading.specs.declared.Event.{Event}
 use Rattle.event_reading.specs.Event.{aTick}
 use Rattle.task_records.specs.declared.Record.{Record}
-use Rattle.task_records.specs.Closing.{closed}
 use Rattle.task_steps.specs.Opening.{expired, noRecord}
-use Rattle.task_steps.specs.Own.{reopened}
 use Rattle.task_steps.proofs.OwnSteps.{Step, tick, release, completion, after-tick, after-release, after-completion}
 use Rattle.state_rules.specs.declared.State.{State}
 use Rattle.state_rules.specs.State.{recordAt}

@@ -1,6 +1,6 @@
 -- The record at the seat decides as the event's own record does: where there is no such task, no record is looked at; and what is taken is not late.
 use Prim.Native.Nat.{ℕ, _≤_, _<_}
-use mathlib.Core.Path.{_≡_, refl, _∙_}
+use mathlib.Core.Path.{_≡_, refl}
 use mathlib.Core.Bool.{Bool, true, false, cond}
 use native.Mathlib.Omega.{arith}
 use borrow.Author.Tests.{ne-eqb, eqb-false, lt-ltb, ltb-true}
@@ -13,7 +13,7 @@ use Rattle.task_steps.specs.Opening.{late, expired}
 use Rattle.task_steps.specs.Own.{ownFault, ownAfter}
 use Rattle.task_steps.proofs.OwnSteps.{expired-prompt, own-prompt}
 use Rattle.apply_ruling.specs.declared.Ruling.{Ruling}
-use Rattle.apply_ruling.specs.Ruling.{seatOf, barOf, taken, kept, ownRuled, ruled}
+use Rattle.apply_ruling.specs.Ruling.{seatOf, taken, kept, ownRuled, ruled}
 use Rattle.apply_ruling.proofs.Bars.{Bars, unruled, untimely, no-task, nothing, bar-is}
 
 -- the seat is one of the places

@@ -1,6 +1,6 @@
 -- What one event does to a task's record in a sound state: nothing where it is refused, else step 1, or its own release or completion. By what happened.
 use Prim.Native.Nat.{ℕ, _<_}
-use mathlib.Core.Path.{_≡_, refl, sym, ap, subst, _∙_}
+use mathlib.Core.Path.{_≡_, refl, sym, subst, _∙_}
 use mathlib.Core.Bool.{Bool, true, false, cond}
 use native.Mathlib.Omega.{arith}
 use Rattle.laws.proofs.Tests.{true-not-false}

@@ -1,6 +1,6 @@
 -- Every closed job of a run was opened by an accepted release at its release, with its number and class, and closed by an event at its closing: an open job's
 -- record stands as the release left it, until the event that closes the job.
-use Prim.Native.Nat.{ℕ, _≤_, _<_}
+use Prim.Native.Nat.{ℕ, _<_}
 use mathlib.Core.Path.{_≡_, refl, sym, ap, subst, _∙_}
 use mathlib.Core.Bool.{Bool, true, false, cond}
 use mathlib.Core.List.{List, [], _∷_}
