@@ -1,7 +1,9 @@
 #!/usr/bin/env python3
-"""sizes.py: functions, lines of code, of definitions and of proof, and must-fail edits of each crate, in the order of crates.txt, as docs/TIMES.md has them."""
+"""sizes.py [LOG]: the table of docs/TIMES.md. For each crate, in the order of crates.txt: functions, lines of code, of definitions and of proof that are not empty, and
+must-fail edits. With what the gate wrote, LOG, also the seconds that each crate's check took."""
 import pathlib
 import re
+import sys
 
 ROOT = pathlib.Path(__file__).resolve().parent.parent
 ORDER = re.findall(r"^(\w+):", (ROOT / "crates.txt").read_text(encoding="utf-8"), re.M)
@@ -11,18 +13,33 @@ def lines(files):
     return sum(1 for f in files for x in f.read_text(encoding="utf-8").splitlines() if x.strip())
 
 
-total = [0] * 5
-print("| crate | functions | code | definitions | proof | edits |\n|---|---|---|---|---|---|")
-for name in ORDER:
+def seconds(log):
+    """By crate, what the gate's log says."""
+    text = pathlib.Path(log).read_text(encoding="utf-8", errors="replace")
+    return {name: int(took) for name, took in re.findall(r"^rt: (\w+) proved \((\d+) s\)", text, re.M)}
+
+
+def row(name):
     crate = ROOT / "crates" / name
     code = list(crate.glob("src/**/*.rt"))
-    row = [
+    return [
         sum(len(re.findall(r'^(?:pub )?(?:extern "C" )?fn ', f.read_text(encoding="utf-8"), re.M)) for f in code),
         lines(code),
         lines(crate.glob("specs/**/*.antt")),
         lines(crate.glob("proofs/**/*.antt")),
         len(list(crate.glob("must-fail/*.edit"))),
     ]
-    total = [a + b for a, b in zip(total, row)]
-    print(f"| `{name}` | " + " | ".join(map(str, row)) + " |")
-print("| all | " + " | ".join(map(str, total)) + " |")
+
+
+def main(words):
+    took = seconds(words[0]) if words else {}
+    heads = ["seconds"] * bool(took) + ["functions", "code", "definitions", "proof", "edits"]
+    rows = {name: [took[name]] * bool(took) + row(name) for name in ORDER}
+    rows["all"] = [sum(column) for column in zip(*rows.values())]
+    print(f"| crate | {' | '.join(heads)} |\n|{'---|' * (len(heads) + 1)}")
+    for name, numbers in rows.items():
+        shown = name if name == "all" else f"`{name}`"
+        print(f"| {shown} | " + " | ".join(str(n) if n else "" for n in numbers) + " |")
+
+
+main(sys.argv[1:])
