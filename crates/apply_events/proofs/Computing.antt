@@ -1,4 +1,4 @@
--- What an event is worked out by, under one name: whoever unfolds the name unfolds every definition on its line.
+-- One name for every definition by which an event is computed: a proof that unfolds it unfolds them all.
 use lib.Count.{ones, onesIn}
 use Rattle.laws.specs.Stores.{filled}
 use Rattle.event_reading.specs.Event.{zeroes, faultOf}

@@ -5,6 +5,7 @@ use mathlib.Core.Bool.{Bool, true, false, cond}
 use mathlib.Core.Logic.{_⊎_, inl, inr}
 use borrow.Author.Tests.{eq-eqb, ne-eqb, eqb-true, eqb-false, lt-ltb, le-ltb, ltb-true, ltb-false, le-leb, lt-leb, leb-true, leb-false}
 use lib.Dec.{eqb, leb, ltb}
+use Rattle.laws.proofs.Tests.{cond-same}
 use Rattle.event_reading.specs.declared.Event.{Event}
 use Rattle.event_reading.specs.Event.{faultOf}
 use Rattle.state_rules.specs.Sound.{limit}
@@ -43,10 +44,6 @@ module _ (clock count : ℕ) (e : Event) where
   unfolding barOf
   bar-only (unruled q) = rw (ne-eqb (faultOf e) 0 q)
   bar-only (untimely z (inl q)) = rw (eq-eqb _ _ z, lt-ltb limit (e .time) q)
-  bar-only (untimely z (inr q)) = rw (eq-eqb _ _ z, lt-ltb (e .time) clock q) (either (ltb limit (e .time)))
-    where
-      either : (b : Bool) → _≡_ {A = ℕ} (cond b 9 9) 9
-      either true = refl
-      either false = refl
+  bar-only (untimely z (inr q)) = rw (eq-eqb _ _ z, lt-ltb (e .time) clock q) (cond-same (ltb limit (e .time)) 9)
   bar-only (no-task i c) = rw (eq-eqb _ _ (i .ruled), le-ltb limit (e .time) (i .limited), le-ltb (e .time) clock (i .onward), le-leb _ _ c)
   bar-only (nothing i c) = rw (eq-eqb _ _ (i .ruled), le-ltb limit (e .time) (i .limited), le-ltb (e .time) clock (i .onward), lt-leb _ _ c)

@@ -1,4 +1,4 @@
--- What all bounds is worked out by, under one name: whoever unfolds the name unfolds every definition on its line.
+-- One name for every definition by which all bounds are computed: a proof that unfolds it unfolds them all.
 use Rattle.laws.specs.Stores.{filled}
 use Rattle.bound_one.proofs.Computing.{bound-computes}
 use Rattle.bound_all.specs.Asked.{allAnswer, allCells}

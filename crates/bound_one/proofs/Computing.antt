@@ -1,4 +1,4 @@
--- What one bound is worked out by, under one name: whoever unfolds the name unfolds every definition on its line.
+-- One name for every definition by which one bound is computed: a proof that unfolds it unfolds them all.
 use Rattle.laws.specs.Sums.{total}
 use Rattle.table_rules.specs.Rules.{taskFault}
 use Rattle.table_rules.specs.Judging.{firstFault, judged}

@@ -1,4 +1,4 @@
--- What reading a log is worked out by, under one name: whoever unfolds the name unfolds every definition on its line.
+-- One name for every definition by which the reading of a log is computed: a proof that unfolds it unfolds them all.
 use Rattle.event_reading.proofs.Computing.{record-computes}
 use Rattle.event_logs.specs.Log.{readableIn, readable, eventsIn}
 

@@ -1,4 +1,4 @@
--- What reading a record is worked out by, under one name: whoever unfolds the name unfolds every definition on its line.
+-- One name for every definition by which the reading of a record is computed: a proof that unfolds it unfolds them all.
 use Rattle.number_reading.specs.Words.{number}
 use Rattle.event_reading.specs.Event.{zeroes, faultOf}
 use Rattle.event_reading.specs.Record.{marks, readRecord}

@@ -1,4 +1,4 @@
--- What a run is worked out by, under one name: whoever unfolds the name unfolds every definition on its line.
+-- One name for every definition by which a run is computed: a proof that unfolds it unfolds them all.
 use Rattle.laws.specs.Sums.{total}
 use Rattle.apply_events.proofs.Computing.{event-computes}
 use Rattle.run_histories.specs.History.{runState, jobsOf}

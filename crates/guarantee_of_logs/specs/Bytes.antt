@@ -1,4 +1,4 @@
--- What is asked of the bytes.
+-- What the guarantee for bytes asks of them: that the table reads, and the log to its end.
 use Prim.Native.Nat.{ℕ}
 use mathlib.Core.Path.{_≡_}
 use mathlib.Core.List.{List}
@@ -7,7 +7,6 @@ use Rattle.table_reading.specs.Table.{readTable}
 use Rattle.event_logs.specs.declared.Ending.the-variants.{Whole}
 use Rattle.event_logs.specs.Ending.{endingOf}
 
--- the table reads, and the log to its end
 pub record BothRead (table log : List ℕ) : Type 0 where
   pub tabled : readTable table .answer ≡ Accepted
   pub whole : endingOf log ≡ Whole

@@ -1,4 +1,4 @@
-// What the walks do with an event and its ruling, on values.
+// What is decided of an event over a lent row, on values: its seat, what it comes to, and what is told.
 use super::Turn;
 use apply_engine::telling::told;
 use apply_events::Answer;

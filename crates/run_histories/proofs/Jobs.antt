@@ -40,7 +40,8 @@ use Rattle.bound_demand.specs.Above.{taskAt}
 use Rattle.task_steps.specs.Own.{reopened}
 use Rattle.apply_events.specs.Apply.{applied}
 use Rattle.run_histories.specs.History.{Job, runState, runRecord, closes, closedJob, jobsOf, outcomesOf}
-use Rattle.run_histories.proofs.Steps.{closed-same, cleared, cleared-open, cleared-none, cleared-same, Expired, over, stays, expiry, expired-same, expired-open}
+use Rattle.run_histories.proofs.Steps.{closed-same, cleared, cleared-open, cleared-none, cleared-same}
+use Rattle.run_histories.proofs.Steps.{Expired, over, stays, expiry, expired-same, expired-open}
 use Rattle.run_histories.proofs.Closes.{jobsWith, closes-none, closes-stays, closes-idle, closes-next}
 use Rattle.run_histories.proofs.Taken.{passed, Becomes, same, passes, reopens, finishes, becomes}
 use Rattle.run_histories.proofs.Reached.{reached}
@@ -75,7 +76,8 @@ module _ (p : Task) (r : Record) (clock : ℕ) (e : Event) (i : ℕ) (jobs : Lis
       → History p (outcomesOf (jobsWith r (reopened (expired r (e .time)) (e .time)) e i jobs)) (reopened (expired r (e .time)) (e .time))
   reopened-kept m = go (expiry r (e .time))
     where
-      opens : (q : Record) (js : List Job) → q .released ≡ r .released → q .live ≡ false → History p (outcomesOf js) q → History p (outcomesOf js) (opened q (e .time))
+      opens : (q : Record) (js : List Job) → q .released ≡ r .released → q .live ≡ false → History p (outcomesOf js) q
+          → History p (outcomesOf js) (opened q (e .time))
       opens q js s l k = release {r = q} (e .time) l (omega (arith, s, g .spaced, g .past)) k
 
       gone : (q : Record) → q ≡ closed r false → r .live ≡ true → History p (outcomesOf (jobsWith r (opened q (e .time)) e i jobs)) (opened q (e .time))
@@ -121,7 +123,8 @@ module _ (s : State) (e : Event) (g : StateSound s) (i : ℕ) (h : i < s .count)
       go (reopens m o) n =
           let q = cleared (expired (recordAt s i) (e .time)) in
           let z = cleared-same (expired (recordAt s i) (e .time)) .released ∙ expired-same (recordAt s i) (e .time) .released in
-          absurd (true-not-false (sym (closes-next (recordAt s i) (opened q (e .time)) l (later-number (recordAt s i) (s .clock) e (g .each i h) (g .clock) q z)) ∙ n))
+          let more = later-number (recordAt s i) (s .clock) e (g .each i h) (g .clock) q z in
+          absurd (true-not-false (sym (closes-next (recordAt s i) (opened q (e .time)) l more) ∙ n))
       go (finishes m o v) n =
           absurd (true-not-false (sym (closes-idle (recordAt s i) (closed (passed s e i) true) l (closed-idle (passed s e i) true)) ∙ n))
 

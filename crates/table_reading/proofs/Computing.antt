@@ -1,4 +1,4 @@
--- What reading a table is worked out by, under one name: whoever unfolds the name unfolds every definition on its line.
+-- One name for every definition by which the reading of a table is computed: a proof that unfolds it unfolds them all.
 use Rattle.laws.specs.Stores.{filled}
 use Rattle.number_reading.specs.Words.{number}
 use Rattle.table_rules.specs.Rules.{taskFault}

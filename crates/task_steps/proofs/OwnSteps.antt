@@ -10,6 +10,7 @@ use Rattle.event_reading.specs.declared.Event.{Event}
 use Rattle.event_reading.specs.Event.{aTick, aRelease, aCompletion, lastKind}
 use Rattle.task_records.specs.declared.Record.{Record}
 use Rattle.task_records.specs.Closing.{closed}
+use Rattle.task_records.proofs.Steps.{closed-idle}
 use Rattle.task_steps.specs.Opening.{late, expired, opened}
 use Rattle.task_steps.specs.Own.{tooSoon, isOpen, reopened, releaseFault, completionFault, ownFault, ownAfter}
 
@@ -123,9 +124,7 @@ step-task {r} {e} (completion k f) = closed-task r true
 -- ---- and what it leaves: no late job, since it is closed or was released now
 
 closed-prompt : (r : Record) (met : Bool) (t : ℕ) → late (closed r met) t ≡ false
-unfolding closed
-closed-prompt r true t = refl
-closed-prompt r false t = refl
+closed-prompt r met t = rw (closed-idle r met)
 
 pub expired-prompt : (r : Record) (t : ℕ) → late (expired r t) t ≡ false
 unfolding expired

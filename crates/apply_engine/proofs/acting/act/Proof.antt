@@ -2,6 +2,7 @@
 -- gives. Within an event the row is settled position by position.
 use Prim.Native.Nat.{ℕ, _+_, _-_, _≤_, _<_}
 use mathlib.Core.Path.{_≡_, refl, sym, ap, _∙_}
+use mathlib.Core.List.{List}
 use mathlib.Core.Logic.{⊎-elim}
 use native.Mathlib.Numerals.{add-one}
 use native.Mathlib.Omega.{arith}
@@ -11,7 +12,9 @@ use Rattle.laws.proofs.Parts.{tail-is}
 use Rattle.event_reading.specs.declared.Reading.{Reading}
 use Rattle.event_reading.specs.Record.{readRecord}
 use Rattle.event_logs.specs.Ending.{endedBy, endingAt}
+use Rattle.task_records.specs.declared.Record.{Record}
 use Rattle.task_steps.specs.Opening.{expired, noRecord}
+use Rattle.state_choice.specs.declared.Best.{Best}
 use Rattle.state_rules.specs.declared.State.{State}
 use Rattle.state_choice.proofs.Least.{best-within}
 use Rattle.apply_ruling.proofs.Seats.{seat-below}
@@ -38,6 +41,21 @@ Inv-loop log start count next₀ event₀ from₀ next event from = Running next
 abbrev μ-loop : tie.MeasureT-loop
 μ-loop log start count next₀ event₀ from₀ next event from = length log - from
 
+-- ---- what came before, by name
+
+abbrev loop-of : tie.After-rule Inv-loop2 μ-loop2 Inv-loop μ-loop → tie.At-loop Inv-loop2 μ-loop2 Inv-loop μ-loop
+loop-of c = c .before .before .before
+
+abbrev rule-of : tie.At-loop2 Inv-loop2 μ-loop2 Inv-loop μ-loop → tie.After-rule Inv-loop2 μ-loop2 Inv-loop μ-loop
+rule-of c = c .before .before .before .before
+
+abbrev turn-of : tie.Joined2 Inv-loop2 μ-loop2 Inv-loop μ-loop → tie.At-loop2 Inv-loop2 μ-loop2 Inv-loop μ-loop
+turn-of c = c .before .before .before .before
+
+-- the tasks that the state counts
+abbrev counted : tie.At-loop Inv-loop2 μ-loop2 Inv-loop μ-loop → ℕ
+counted c = c .before .before .args .state .count
+
 -- ---- an event's own task
 
 placed : (c : tie.After-seat Inv-loop2 μ-loop2 Inv-loop μ-loop) → c .seat .result < 16
@@ -48,9 +66,7 @@ placed c =
 -- the ruling is that of the record at the seat
 ruling-is : (c : tie.After-rule Inv-loop2 μ-loop2 Inv-loop μ-loop)
     → c .rule .result ≡ seatRuled (c .before .before .before .loop .next) (c .before .before .before .loop .event)
-ruling-is c =
-    let l = c .before .before .before .loop in
-    c .rule .ensures ∙ rw (c .before .before .seat .ensures, ← l .inv .counted)
+ruling-is c = c .rule .ensures ∙ rw (c .before .before .seat .ensures, ← c .before .before .before .loop .inv .counted)
 
 seat-result : (c : tie.After-rule Inv-loop2 μ-loop2 Inv-loop μ-loop)
     → c .before .before .seat .result ≡ seat (c .before .before .before .loop .next) (c .before .before .before .loop .event)
@@ -59,32 +75,35 @@ seat-result c = c .before .before .seat .ensures ∙ rw (← c .before .before .
 -- ---- the positions
 
 -- the positions are at most the 16 places
-most : (c : tie.At-loop2 Inv-loop2 μ-loop2 Inv-loop μ-loop) → c .before .before .before .before .before .before .before .before .before .args .state .count ≤ 16
-most c = c .before .before .before .before .before .before .before .before .before .pre .0 .counted .most
+most : (c : tie.At-loop2 Inv-loop2 μ-loop2 Inv-loop μ-loop) → counted (loop-of (rule-of c)) ≤ 16
+most c = loop-of (rule-of c) .before .before .pre .0 .counted .most
 
 -- what a turn leaves of the state
 stepped : (c : tie.Joined2 Inv-loop2 μ-loop2 Inv-loop μ-loop)
-    → c .if2 .next ≡ moved (c .before .before .before .before .loop2 .next) (c .before .before .before .before .loop2 .next .clock) (set (c .before .before .before .before .loop2 .next .records) (c .before .before .before .before .loop2 .i) (expired (getD (c .before .before .before .before .loop2 .next .records) (c .before .before .before .before .loop2 .i) noRecord) (c .before .before .before .before .before .before .before .before .before .before .before .loop .event .time)))
+    → let l = turn-of c .loop2 in
+    let t = loop-of (rule-of (turn-of c)) .loop .event .time in
+    c .if2 .next ≡ moved (l .next) (l .next .clock) (set (l .next .records) (l .i) (expired (getD (l .next .records) (l .i) noRecord) t))
 stepped c =
-    let l = c .before .before .before .before .loop2 in
-    let t = c .before .before .before .before .before .before .before .before .before .before .before .loop .event .time in
+    let l = turn-of c .loop2 in
+    let t = loop-of (rule-of (turn-of c)) .loop .event .time in
     let x = l .next in
+    let late = c .before .is-late .ensures in
     ⊎-elim
     (λ w.
     w .3
-    ∙ ap (moved x (x .clock)) (ap (set (x .records) (l .i)) (w .2 .ensures) ∙ late-closed (x .records) t (l .i) (sym (c .before .is-late .ensures) ∙ w .0 .taken)))
-    (λ w. w .1 ∙ ap (moved x (x .clock)) (prompt-stays (x .records) t (l .i) (sym (c .before .is-late .ensures) ∙ w .0 .left)))
+    ∙ ap (moved x (x .clock)) (ap (set (x .records) (l .i)) (w .2 .ensures) ∙ late-closed (x .records) t (l .i) (sym late ∙ w .0 .taken)))
+    (λ w. w .1 ∙ ap (moved x (x .clock)) (prompt-stays (x .records) t (l .i) (sym late ∙ w .0 .left)))
     (c .if2 .came)
 
 -- all positions are passed
-passed : (c : tie.After-loop2 Inv-loop2 μ-loop2 Inv-loop μ-loop) → c .before .loop2 .i ≡ c .before .before .before .before .before .before .before .before .before .before .args .state .count
+passed : (c : tie.After-loop2 Inv-loop2 μ-loop2 Inv-loop μ-loop) → c .before .loop2 .i ≡ counted (loop-of (rule-of (c .before)))
 passed c = omega (arith, c .before .loop2 .inv .0, c .loop2-test .left)
 
 -- the best job stands at one of the 16 places
 chosen-placed : (c : tie.After-loop2 Inv-loop2 μ-loop2 Inv-loop μ-loop) → c .before .loop2 .best .at < 16
 chosen-placed c =
     let l = c .before .loop2 in
-    let n = c .before .before .before .before .before .before .before .before .before .before .pre .0 .counted in
+    let n = loop-of (rule-of (c .before)) .before .before .pre .0 .counted in
     let g = l .inv .1 .1 .1 in
     rw (g .least) (omega (arith, best-within (l .next .records) (l .i) (omega (arith, passed c, n .one)), passed c, n .most))
 
@@ -94,9 +113,15 @@ chosen-placed c =
 parts : (s n : State) (t : ℕ) → n .count ≡ s .count → n .clock ≡ t → moved s t (n .records) ≡ n
 parts s n t p q = rw (← p, ← q)
 
+-- a row that is settled, by another name of the seat and of the count
+settled-at : (l : List Record) (t : ℕ) (x : Record) {k k′ n n′ : ℕ} {row : List Record} {best : Best} → k ≡ k′ → n ≡ n′
+    → Settling (set l k x) t n row best → Settling (set l k′ x) t n′ row best
+settled-at l t x p q g = rw (← p, ← q) g
+
 -- an event has been applied to the state so far
 body : (c : tie.Joined1 Inv-loop2 μ-loop2 Inv-loop μ-loop)
-    → applied (c .before .before .before .before .before .loop .next) (c .before .before .before .before .before .loop .event) ≡ record { answer = c .if1 .said; state = c .if1 .next }
+    → let l = c .before .before .before .before .before .loop in
+    applied (l .next) (l .event) ≡ record { answer = c .if1 .said; state = c .if1 .next }
 body c =
     let l = c .before .before .before .before .before .loop in
     let s = l .next in
@@ -108,7 +133,7 @@ body c =
     let a = accepted-by s e (l .inv .sound) q d (w .0 .taken) in
     let i : w .2 .i ≡ s .count = omega (arith, w .2 .inv .0, w .3 .left, l .inv .counted) in
     let v = w .2 .inv .1 in
-    let f = rw (i, seat-result (c .before .before)) at v .1 .1 in
+    let f = settled-at (s .records) (e .time) (q .after) (seat-result (c .before .before)) i (v .1 .1) in
     a .same
     ∙ settled-accepted s (e .time) (seat s e) (q .after) (w .2 .next .records) (w .2 .best) (l .inv .sound) (a .below) (a .prompt) f
     ∙ rw (parts s (w .2 .next) (e .time) (v .0) (v .1 .0), w .5, w .6, w .4 .ensures))
@@ -142,9 +167,10 @@ element-set-from-after c = placed (c .before .before .before .before .before)
 
 loop2-holds : tie.Need-loop2-holds Inv-loop2 μ-loop2 Inv-loop μ-loop
 loop2-holds c =
-    let s = c .before .before .before .before .before .before .loop .next in
-    let k = c .before .before .before .before .before .seat .result in
-    (omega arith, (refl, (refl, settling-none (set (s .records) k (c .before .before .before .rule .result .after)) (c .before .before .before .before .before .before .loop .event .time))))
+    let r = c .before .before .before in
+    let l = loop-of r .loop in
+    let new = set (l .next .records) (r .before .before .seat .result) (r .rule .result .after) in
+    (omega arith, (refl, (refl, settling-none new (l .event .time))))
 
 mul-is-late : tie.Need-mul-is-late Inv-loop2 μ-loop2 Inv-loop μ-loop
 mul-is-late c = omega (arith, most (c .before), c .loop2-test .taken)
@@ -190,13 +216,17 @@ loop2-less c = omega (arith, c .before .before .before .before .before .loop2-te
 loop2-again : tie.Need-loop2-again Inv-loop2 μ-loop2 Inv-loop μ-loop
 loop2-again c =
     let j = c .before .before in
-    let a = j .before .before .before .before in
-    let l = a .loop2 in
+    let l = turn-of j .loop2 in
     let e = stepped j in
     let v = l .inv .1 in
-    let h = a .before .before .before .before .before .before in
-    let f = settling-more (set (h .before .loop .next .records) (h .seat .result) (a .before .before .before .before .rule .result .after)) (h .before .loop .event .time) (l .i) (l .next .records) (l .best) (v .1 .1) (j .if2 .next .records) (ap (λ (x : State). x .records) e) in
-    (omega (arith, j .before .before .before .loop2-test .taken), (ap (λ (x : State). x .count) e ∙ v .0, (ap (λ (x : State). x .clock) e ∙ v .1 .0, rw (c .better-of .ensures, add-one) f)))
+    let r = rule-of (turn-of j) in
+    let o = loop-of r .loop in
+    let new = set (o .next .records) (r .before .before .seat .result) (r .rule .result .after) in
+    let rows = ap (λ (x : State). x .records) e in
+    let f = settling-more new (o .event .time) (l .i) (l .next .records) (l .best) (v .1 .1) (j .if2 .next .records) rows in (
+      omega (arith, j .before .before .before .loop2-test .taken),
+      (ap (λ (x : State). x .count) e ∙ v .0, (ap (λ (x : State). x .clock) e ∙ v .1 .0, rw (c .better-of .ensures, add-one) f)),
+    )
 
 mul-told : tie.Need-mul-told Inv-loop2 μ-loop2 Inv-loop μ-loop
 mul-told c = omega (arith, chosen-placed c)
@@ -240,7 +270,10 @@ returns c =
 
 -- after a record that reads
 again : (c : tie.After-known-told Inv-loop2 μ-loop2 Inv-loop μ-loop)
-    → Running (c .before .before .before .before .before .before .before .before .before .before .before .before .args .state) (c .before .before .before .before .before .before .before .before .before .before .before .before .args .first) (c .before .before .before .before .before .before .before .before .before .before .before .before .args .log .now) (c .before .before .before .before .before .before .before .before .before .before .before .before .args .start) (c .before .before .before .before .before .if1 .next) (c .before .got .given .0 .0) (c .before .before .before .before .before .before .before .before .before .before .loop .from + 20)
+    → let j = c .before .before .before .before .before in
+    let l = j .before .before .before .before .before in
+    let a = l .before .before .args in
+    Running (a .state) (a .first) (a .log .now) (a .start) (j .if1 .next) (c .before .got .given .0 .0) (l .loop .from + 20)
 again c =
     let j = c .before .before .before .before .before in
     let l = j .before .before .before .before .before .loop in

@@ -15,22 +15,45 @@ returns c = let j = c .before .judge .ensures in j ∙ rw (ne-eqb _ 0 (λ z. c .
 
 returns-2 : tie.Need-returns-2
 unfolding barOf
-returns-2 c = rw (eq-eqb _ 0 (sym (c .before .before .before .judge .ensures) ∙ c .before .before .if1 .left), lt-ltb _ _ (c .if2 .taken))
+returns-2 c =
+    let f = c .before .before in
+    rw (eq-eqb _ 0 (sym (f .before .judge .ensures) ∙ f .if1 .left), lt-ltb _ _ (c .if2 .taken))
 
 returns-3 : tie.Need-returns-3
 unfolding barOf
-returns-3 c = rw (eq-eqb _ 0 (sym (c .before .before .before .before .before .judge .ensures) ∙ c .before .before .before .before .if1 .left), le-ltb _ _ (c .before .before .if2 .left), lt-ltb _ _ (c .if3 .taken))
+returns-3 c =
+    let l = c .before .before in
+    let f = l .before .before in
+    rw (eq-eqb _ 0 (sym (f .before .judge .ensures) ∙ f .if1 .left), le-ltb _ _ (l .if2 .left), lt-ltb _ _ (c .if3 .taken))
 
 cast-task : tie.Need-cast-task
 cast-task c = search needs
 
 returns-4 : tie.Need-returns-4
 unfolding barOf
-returns-4 c = rw (eq-eqb _ 0 (sym (c .before .before .before .before .before .before .before .judge .ensures) ∙ c .before .before .before .before .before .before .if1 .left), le-ltb _ _ (c .before .before .before .before .if2 .left), le-ltb _ _ (c .before .before .if3 .left), le-leb _ _ (c .if4 .taken))
+returns-4 c =
+    let o = c .before .before in
+    let l = o .before .before in
+    let f = l .before .before in
+    rw (
+      eq-eqb _ 0 (sym (f .before .judge .ensures) ∙ f .if1 .left),
+      le-ltb _ _ (l .if2 .left),
+      le-ltb _ _ (o .if3 .left),
+      le-leb _ _ (c .if4 .taken),
+    )
 
 returns-5 : tie.Need-returns-5
 unfolding barOf
-returns-5 c = rw (eq-eqb _ 0 (sym (c .before .before .before .before .before .before .before .judge .ensures) ∙ c .before .before .before .before .before .before .if1 .left), le-ltb _ _ (c .before .before .before .before .if2 .left), le-ltb _ _ (c .before .before .if3 .left), lt-leb _ _ (c .if4 .left))
+returns-5 c =
+    let o = c .before .before in
+    let l = o .before .before in
+    let f = l .before .before in
+    rw (
+      eq-eqb _ 0 (sym (f .before .judge .ensures) ∙ f .if1 .left),
+      le-ltb _ _ (l .if2 .left),
+      le-ltb _ _ (o .if3 .left),
+      lt-leb _ _ (c .if4 .left),
+    )
 
 pub bar-spec : {M : Type 1} → statement M
 bar-spec =
