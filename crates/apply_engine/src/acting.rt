@@ -5,6 +5,7 @@ use apply_events::Ran;
 use apply_ruling::judging::rule;
 use apply_ruling::judging::seat;
 use event_logs::ended;
+use event_reading::EVENT_SIZE;
 use event_reading::Event;
 use event_reading::Reading;
 use event_reading::read;
@@ -67,6 +68,6 @@ pub fn act(state: State, first: Event, log: &[u8], start: usize) -> Ran
             };
         };
         event = other;
-        from += 20;
+        from += EVENT_SIZE;
     }
 }

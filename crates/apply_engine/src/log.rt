@@ -5,6 +5,7 @@ use apply_events::Answer;
 use apply_events::Ran;
 use event_logs::Ending;
 use event_logs::ended;
+use event_reading::EVENT_SIZE;
 use event_reading::Reading;
 use event_reading::read;
 use state_rules::State;
@@ -38,7 +39,7 @@ pub fn run(state: State, log: &[u8]) -> Ran
         let Reading::Event(first) = got else {
             return stand(state, ended(got, 0));
         };
-        return act(state, first, log, 20);
+        return act(state, first, log, EVENT_SIZE);
     }
     // Nothing is read for a state that is not sound.
     Ran {

@@ -2,6 +2,7 @@
 use super::Ruling;
 use event_reading::Event;
 use event_reading::judge;
+use state_rules::LIMIT;
 use task_records::Record;
 use task_steps::opening::expire;
 use task_steps::own::own_after;
@@ -24,7 +25,7 @@ fn bar(clock: u64, count: usize, event: Event) -> u8
     if fault != 0 {
         return fault;
     }
-    if 1000000000000 < event.time {
+    if LIMIT < event.time {
         return 9;
     }
     if event.time < clock {

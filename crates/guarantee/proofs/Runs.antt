@@ -25,7 +25,7 @@ use Rattle.state_rules.specs.declared.State.{State}
 use Rattle.state_choice.specs.declared.Best.{Best}
 use Rattle.state_rules.specs.State.{recordAt, freshState}
 use Rattle.state_rules.specs.Choice.{chosen}
-use Rattle.task_steps.specs.Rank.{Before}
+use Rattle.task_steps.proofs.Ranks.{Before}
 use Rattle.state_choice.proofs.Least.{Chosen, Found, some, nothing, best-is}
 use Rattle.state_rules.proofs.Starting.{fresh-at}
 use Rattle.bound_demand.specs.Above.{taskAt, isAbove}

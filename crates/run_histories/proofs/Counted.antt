@@ -22,8 +22,8 @@ use Rattle.state_rules.proofs.Starting.{fresh-at}
 use Rattle.run_windows.specs.Outcomes.{mets, misses}
 use Rattle.task_steps.specs.Own.{reopened}
 use Rattle.apply_events.specs.Apply.{applied}
-use Rattle.run_histories.specs.History.{Job, runState, runRecord, accepts, closes, completes, releases, closedJob, jobsOf, outcomesOf}
-use Rattle.run_histories.specs.Counted.{releasesOf, completionsOf, lossesOf}
+use Rattle.run_histories.specs.History.{Job, runState, runRecord, accepts, closes, completes, closedJob, jobsOf, outcomesOf}
+use Rattle.run_histories.specs.Counted.{releases, releasesOf, completionsOf, lossesOf}
 use Rattle.run_histories.proofs.Steps.{closed-same, cleared, cleared-same, expired-same, expired-open}
 use Rattle.run_histories.proofs.Closes.{closes-stays, closes-idle}
 use Rattle.run_histories.proofs.Taken.{passed, Becomes, same, passes, reopens, finishes, becomes}

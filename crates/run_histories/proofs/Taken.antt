@@ -20,7 +20,8 @@ use Rattle.apply_events.specs.declared.Applied.{Applied}
 use Rattle.apply_events.specs.Apply.{answerOf, acted, applied}
 use Rattle.apply_events.proofs.Happened.{Happened, refusal, acceptance, happened, sound-acts}
 use Rattle.apply_events.proofs.Places.{places, stored-place}
-use Rattle.run_histories.specs.History.{accepts, completes, releases}
+use Rattle.run_histories.specs.History.{accepts, completes}
+use Rattle.run_histories.specs.Counted.{releases}
 use Rattle.run_histories.proofs.Steps.{is-open}
 use Rattle.run_histories.proofs.Closes.{other-kind, other-task, own-task}
 

@@ -1,11 +1,17 @@
--- Rules, "Window": released, met and missed "each counted from the events" of a run, listed newest first.
+-- Rules, "Window": released, met and missed, each counted from the events of a run, listed newest first.
 use Prim.Native.Nat.{ℕ, _+_}
-use mathlib.Core.Bool.{true, false, cond}
+use mathlib.Core.Bool.{Bool, true, false, cond}
 use mathlib.Core.List.{List, [], _∷_}
+use lib.Dec.{eqb}
 use Rattle.laws.specs.Numbers.{oneIf}
 use Rattle.event_reading.specs.declared.Event.{Event}
+use Rattle.event_reading.specs.Event.{aRelease}
 use Rattle.state_rules.specs.declared.State.{State}
-use Rattle.run_histories.specs.History.{runRecord, isAccepted, closes, completes, releases}
+use Rattle.run_histories.specs.History.{runRecord, isAccepted, closes, completes}
+
+-- a release of task i
+abbrev pub releases : Event → ℕ → Bool
+releases e i = cond (eqb (e .kind) aRelease) (eqb (e .task) i) false
 
 -- the accepted releases of task i
 unfoldable pub releasesOf : State → List Event → ℕ → ℕ

@@ -4,7 +4,7 @@ use mathlib.Core.Bool.{Bool, true, false, cond}
 use mathlib.Core.List.{List, [], _∷_, map}
 use lib.Dec.{eqb}
 use Rattle.event_reading.specs.declared.Event.{Event}
-use Rattle.event_reading.specs.Event.{aRelease, aCompletion}
+use Rattle.event_reading.specs.Event.{aCompletion}
 use Rattle.task_records.specs.declared.Record.{Record}
 use Rattle.state_rules.specs.declared.State.{State}
 use Rattle.state_rules.specs.State.{recordAt}
@@ -45,10 +45,6 @@ closes r q = cond (r .live) (cond (q .live) (cond (eqb (q .released) (r .release
 -- it was met if the event is a completion of its task, and missed if not
 abbrev pub completes : Event → ℕ → Bool
 completes e i = cond (eqb (e .kind) aCompletion) (eqb (e .task) i) false
-
--- a release of task i
-abbrev pub releases : Event → ℕ → Bool
-releases e i = cond (eqb (e .kind) aRelease) (eqb (e .task) i) false
 
 abbrev pub closedJob : Record → Event → ℕ → Job
 closedJob r e i =

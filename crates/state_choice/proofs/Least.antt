@@ -14,8 +14,8 @@ use lib.Seq.{getD-set-other}
 use Rattle.laws.proofs.Tests.{true-not-false, by-test}
 use Rattle.task_records.specs.declared.Record.{Record}
 use Rattle.task_steps.specs.Opening.{noRecord}
-use Rattle.task_steps.specs.Rank.{JobAbove, keyOf, Before}
-use Rattle.task_steps.proofs.Ranks.{above-once, key-tells}
+use Rattle.task_steps.specs.Rank.{JobAbove, keyOf}
+use Rattle.task_steps.proofs.Ranks.{Before, above-once, key-tells}
 use Rattle.state_choice.specs.declared.Best.{Best}
 use Rattle.state_choice.specs.Choice.{wins, better, bestTo}
 use Rattle.state_choice.specs.Least.{Least, NoneOpen}

@@ -7,7 +7,11 @@ use native.Mathlib.Omega.{arith}
 use Rattle.table_rules.specs.Order.{Higher}
 use Rattle.table_rules.proofs.Order.{higher-once, higher-some, higher-on}
 use Rattle.task_records.specs.declared.Record.{Record}
-use Rattle.task_steps.specs.Rank.{JobAbove, Before}
+use Rattle.task_steps.specs.Rank.{JobAbove, keyOf}
+
+-- smaller key, or equal keys and smaller position
+abbrev pub Before : Record → ℕ → Record → ℕ → Type 0
+Before r i q j = (keyOf r < keyOf q) ⊎ ((keyOf r ≡ keyOf q) × (i < j))
 
 module _ (r : Record) (i : ℕ) (q : Record) (j : ℕ) where
   -- never both

@@ -12,7 +12,3 @@ JobAbove r i q j = (r .class < q .class) ⊎ ((r .class ≡ q .class) × Higher 
 -- class and D as one number: the smaller is above, and equal ones go by position
 abbrev pub keyOf : Record → ℕ
 keyOf r = r .class * 4294967296 + r .task .d
-
--- smaller key, or equal keys and smaller position
-abbrev pub Before : Record → ℕ → Record → ℕ → Type 0
-Before r i q j = (keyOf r < keyOf q) ⊎ ((keyOf r ≡ keyOf q) × (i < j))
