@@ -2,17 +2,16 @@
 -- One view for all that is shown of an event: the decision is unfolded here alone.
 use Prim.Native.Nat.{ℕ, _≤_, _<_}
 use mathlib.Core.Path.{_≡_, refl, sym, ap, _∙_}
-use mathlib.Core.Bool.{Bool, false, cond}
+use mathlib.Core.Bool.{cond}
 use native.Mathlib.Omega.{arith}
 use borrow.Author.Tests.{eq-eqb, ne-eqb}
 use lib.Dec.{eqb}
 use lib.ListN.{set}
-use Rattle.laws.proofs.Tests.{by-test, tells-true, tells-false, impossible}
+use Rattle.laws.proofs.Tests.{cond-no, by-test, tells-true, tells-false, impossible}
 use Rattle.event_reading.specs.declared.Event.{Event}
 use Rattle.event_reading.specs.Event.{aTick, faultOf}
 use Rattle.event_reading.proofs.Rules.{judge-0}
 use Rattle.task_records.specs.declared.Record.{Record}
-use Rattle.task_steps.specs.Own.{ownFault}
 use Rattle.task_steps.proofs.OwnSteps as O
 use Rattle.state_rules.specs.declared.State.{State}
 use Rattle.state_rules.specs.State.{recordAt}
@@ -65,22 +64,16 @@ module _ (s : State) (e : Event) where
   unfolding applied
   unsound-is n = rw (tells-false (state-tells s) n)
 
+  -- on a sound state: the number that bars the event, or what its own task's record says
   abbrev r : Record
   r = recordAt s (e .task)
 
-  -- the event's own record by what bars it, and by what refuses it of its task
   abbrev bar : ℕ
   bar = barOf (s .clock) (s .count) e
 
-  abbrev number : ℕ
-  number = ownFault (afterOne s e) e
-
   pub barred-is : StateSound s → (bar ≡ 0 → ⊥) → applied s e ≡ refused s bar
   unfolding ruled
-  barred-is p z = sym (sound-acts p) ∙ ap (carriedOut s e) (barred (eqb bar 0) (ne-eqb bar 0 z)) ∙ carried-refused (kept bar r) z
-    where
-      barred : (b : Bool) → b ≡ false → cond b (ownRuled r (afterOne s e) e) (kept bar r) ≡ kept bar r
-      barred b q = rw q
+  barred-is p z = sym (sound-acts p) ∙ ap (carriedOut s e) (cond-no (eqb bar 0) _ _ (ne-eqb bar 0 z)) ∙ carried-refused (kept bar r) z
 
   pub own-is : StateSound s → bar ≡ 0 → applied s e ≡ carriedOut s e (ownRuled r (afterOne s e) e)
   unfolding ruled
