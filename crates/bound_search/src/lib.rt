@@ -1,4 +1,4 @@
-// The response bound of the rules: the search for the first stretch of ticks that its demand fits.
+// The response bound of the rules: the search for the smallest R whose demand is at most R.
 pub mod search;
 
 // What the search yields.

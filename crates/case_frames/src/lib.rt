@@ -1,4 +1,4 @@
-// What the programs of cases share: parts of an input one behind the other, each behind its size in two bytes, the lower first; and printing.
+// What the programs of cases share: printing, and an input in parts. Before each part stands its size in two bytes, the lower byte first.
 pub mod print;
 
 ghost use Prim.Native.Nat.{_<_};

@@ -126,8 +126,8 @@ refused-kept (broken-8 p z) = refl
 refused-kept (cramped r p) = refl
 
 -- a refused writing leaves the slice
-pub refused-stays : (e : Event) (s : List ℕ) (n : ℕ) → wroteRecord e s ≡ W.Refused n → afterWrite e s ≡ s
-refused-stays e s n q = refused-kept (rw q at (writes-is e s))
+pub refused-leaves : (e : Event) (s : List ℕ) (n : ℕ) → wroteRecord e s ≡ W.Refused n → afterWrite e s ≡ s
+refused-leaves e s n q = refused-kept (rw q at (writes-is e s))
 
 pub record-length : (e : Event) → length (recordOf e) ≡ 20
 unfolding recordOf

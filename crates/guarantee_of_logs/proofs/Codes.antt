@@ -32,7 +32,7 @@ use Rattle.apply_events.specs.Log.{standing, ran}
 use Rattle.apply_events.proofs.Runs.{ran-by}
 use Rattle.apply_events.proofs.After.{after-sound}
 use Rattle.run_histories.specs.History.{accepts}
-use Rattle.run_histories.proofs.Taken.{refused-leaves, answers-choice}
+use Rattle.run_histories.proofs.Taken.{refused-stays, answers-choice}
 use Rattle.rig_codes.specs.Code.{codeFor, ofAnswer, codeOf, begins}
 use Rattle.rig_codes.specs.Given.{Begun, Whole, last}
 use Rattle.rig_codes.proofs.Starts.{begins-sound, begins-idle}
@@ -77,7 +77,7 @@ module _ (s : State) (es : List Event) (g : StateSound s) (n : ℕ) (h : n < len
       go A.Idle q = taken (ap accepts q)
       go (A.Refused k) q =
           subst (CodeTells s es (suc n)) (sym (ap (λ (x : Answer). codeFor (ofAnswer x)) q))
-          (last-refused n k q (after-more s es n h ∙ refused-leaves here (eventAt es n) sound (ap accepts q)))
+          (last-refused n k q (after-more s es n h ∙ refused-stays here (eventAt es n) sound (ap accepts q)))
 
 -- ---- the first 20 n bytes
 

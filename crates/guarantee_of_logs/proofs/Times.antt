@@ -35,7 +35,7 @@ use Rattle.apply_events.proofs.Happened.{Happened, refusal, acceptance, happene
 use Rattle.apply_events.proofs.Places.{places, stored-place}
 use Rattle.apply_events.specs.Log.{stateAfter}
 use Rattle.run_histories.proofs.Steps.{closed-same, cleared-same, expired-same}
-use Rattle.run_histories.proofs.Taken.{passed, refused-leaves}
+use Rattle.run_histories.proofs.Taken.{passed, refused-stays}
 use Rattle.run_histories.proofs.Reached.{Reached, reached}
 use Rattle.guarantee.specs.ChosenTime.{isChoice}
 use Rattle.rig_codes.proofs.Starts.{begins-sound}
@@ -146,7 +146,7 @@ module _ (t : Table) (good : judged t ≡ Accepted) (es : List Event) (i : ℕ) 
     refused : acceptedAt s es n ≡ false → Told (suc n) (standingAt s es (suc n) y)
     unfolding standingAt
     refused a =
-        let z = after-more s es n l ∙ refused-leaves here (eventAt es n) (come n .sound) a in
+        let z = after-more s es n l ∙ refused-stays here (eventAt es n) (come n .sound) a in
         let w : standingAt s es (suc n) y ≡ standingAt s es n y = rw (z, again s es y n) in
         subst (λ (x : State). Since (recordAt x i) i y (standingAt s es (suc n) y)) (sym z) (subst (Told n) (sym w) f)
 

@@ -74,8 +74,8 @@ refused-kept : {s out t : List ℕ} {n : ℕ} → Lists s out (Refused n) t → 
 refused-kept (short h) = refl
 
 -- refused, the lent bytes stay
-pub refused-stays : (s out : List ℕ) (n : ℕ) → listAnswer s (length out) ≡ Refused n → listedInto s out ≡ out
-refused-stays s out n e = refused-kept (rw e at (lists-is s out))
+pub refused-leaves : (s out : List ℕ) (n : ℕ) → listAnswer s (length out) ≡ Refused n → listedInto s out ≡ out
+refused-leaves s out n e = refused-kept (rw e at (lists-is s out))
 
 -- the text is within the lent bytes
 pub text-within : (s : List ℕ) (lent n : ℕ) → listAnswer s lent ≡ Text n → n ≤ lent

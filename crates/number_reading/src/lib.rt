@@ -1,4 +1,4 @@
-// Little-endian numbers read from byte slices: one reader over the width; a width of the interface is an instance.
+// Little-endian numbers read from byte slices: one reader, with the width as a parameter. Each width of the interface calls it.
 ghost use mathlib.Core.Path.{_≡_};
 ghost use Prim.Native.Nat.{_≤_, _<_, _^_};
 ghost use lib.ListN.{getD, take};

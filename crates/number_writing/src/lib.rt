@@ -1,4 +1,4 @@
-// Little-endian numbers written to byte slices: one writer over the width; a width of the interface is an instance.
+// Little-endian numbers written to byte slices: one writer, with the width as a parameter. Each width of the interface calls it.
 ghost use mathlib.Core.Path.{_≡_};
 ghost use mathlib.Core.List.{_++_};
 ghost use Prim.Native.Nat.{_≤_};

@@ -43,8 +43,8 @@ module _ (s : State) (e : Event) where
   acts g = sym (sound-acts s e g)
 
   -- a refused event alters nothing
-  pub refused-leaves : StateSound s → accepts (applied s e .answer) ≡ false → applied s e .state ≡ s
-  refused-leaves g = go (happened s e)
+  pub refused-stays : StateSound s → accepts (applied s e .answer) ≡ false → applied s e .state ≡ s
+  refused-stays g = go (happened s e)
     where
       go : {a : Applied} → Happened s e a → accepts (a .answer) ≡ false → a .state ≡ s
       go (refusal n z v) r = refl
