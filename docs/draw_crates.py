@@ -468,4 +468,7 @@ def main(words):
 
 
 if __name__ == "__main__":
-    main(sys.argv[1:])
+    try:
+        main(sys.argv[1:])
+    except OSError as wrong:
+        sys.exit(f"draw_crates.py: {wrong.filename}: {wrong.strerror}")

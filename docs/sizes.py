@@ -42,4 +42,7 @@ def main(words):
         print(f"| {shown} | " + " | ".join(str(n) if n else "" for n in numbers) + " |")
 
 
-main(sys.argv[1:])
+try:
+    main(sys.argv[1:])
+except OSError as wrong:
+    sys.exit(f"sizes.py: {wrong.filename}: {wrong.strerror}")

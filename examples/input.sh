@@ -12,8 +12,8 @@ here=$(dirname "$(dirname "$(readlink -f "$0")")")
 case ${1-} in
 -?*) stops "$1 is no option; usage: $0 [FILE]" ;;
 esac
-input=${1:-$here/examples/line.bin}
-[ -e "$input" ] || stops "$input: there is no such file"
+input=${1-$here/examples/line.bin}
+[ -e "$input" ] || stops "${input:-an empty name}: there is no such file"
 { [ ! -d "$input" ] && [ -r "$input" ]; } || stops "$input: a file that can be read is needed"
 case $input in
 *.txt) stops "$input is text; make its bytes first: python3 $here/examples/make.py $input ${input%.txt}.bin" ;;

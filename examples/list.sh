@@ -6,6 +6,6 @@ here='' input=''
 . "$(dirname "$(readlink -f "$0")")/input.sh"
 cd "$here"
 . tests/machine.sh
-echo "proving and building the listing program (about 4 minutes the first time, seconds after that)" >&2
+echo "proving and building the listing program (some minutes the first time, seconds after that)" >&2
 program listing >&2
 $start target/bin/listing <"$input"

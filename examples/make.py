@@ -50,5 +50,7 @@ if __name__ == "__main__":
         sys.exit(__doc__)
     try:
         main(*sys.argv[1:])
-    except (OSError, UnicodeDecodeError) as wrong:
-        sys.exit(f"make.py: {wrong}")
+    except OSError as wrong:
+        sys.exit(f"make.py: {wrong.filename}: {wrong.strerror}")
+    except UnicodeDecodeError as wrong:
+        sys.exit(f"make.py: {sys.argv[1]} is no plain text: its byte {wrong.start} is {wrong.object[wrong.start]:#04x}")
