@@ -68,10 +68,12 @@ def others_name():
 
 
 def edits_are_told():
-    told = set(re.findall(r"`(\w+)`", read(ROOT / "docs/PROMISES.md")))
-    for name in sorted(edits):
-        if name not in told:
-            missing.append(f"the edit {name} of {', '.join(sorted(edits[name]))} is named by no promise")
+    """Every edit stands in a promise behind its crate's name; a name may stand for edits of several crates."""
+    text = re.sub(r"\s+", " ", read(ROOT / "docs/PROMISES.md"))
+    told = {(crate, name) for crate, group in re.findall(r"`(\w+)`: ((?:`\w+`(?:, )?)+)", text) for name in re.findall(r"`(\w+)`", group)}
+    for crate, name in sorted((crate, name) for name in edits for crate in edits[name]):
+        if (crate, name) not in told:
+            missing.append(f"docs/PROMISES.md: no promise names the edit {name} of {crate}, as `{crate}`: `{name}`")
 
 
 def look():
