@@ -1,4 +1,4 @@
--- The rules' eight thresholds and its eight listing events, answer by answer, as one table under one claim, by computation.
+-- The eight thresholds of the rules and the eight events of the worked listing, answer by answer, as one table under one claim, by computation.
 use Prim.Native.Nat.{ℕ}
 use mathlib.Core.Path.{_≡_, refl}
 use mathlib.Core.List.{List, [], _∷_, map}

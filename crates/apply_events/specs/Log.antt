@@ -1,4 +1,4 @@
--- Applying a log: the events that read, one after the other, the last answer, and what ended the reading.
+-- Rules, "Events and the clock", for a log: the events that read, one after the other, the last answer, and what ended the reading.
 use mathlib.Core.Bool.{cond}
 use mathlib.Core.List.{List, [], _∷_}
 use Prim.Native.Nat.{ℕ}

@@ -1,4 +1,4 @@
--- An event against its own task, on values: whether it is refused, and the task's record after it.
+-- Rules, "Order of refusals": 7, 8, 9, 10, then what refuses an event of its own task; and the task's record after it. On values.
 use Prim.Native.Nat.{ℕ}
 use mathlib.Core.Bool.{cond}
 use lib.Dec.{eqb, leb, ltb}

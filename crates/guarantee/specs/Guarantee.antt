@@ -1,4 +1,4 @@
--- Demand 3, over the engine's own classes, choices and bounds.
+-- Rules, "The three demands", D3: over the engine's own classes, choices and bounds.
 use Prim.Native.Nat.{ℕ, _+_, _≤_, _<_}
 use mathlib.Core.Path.{_≡_}
 use mathlib.Core.Bool.{true}

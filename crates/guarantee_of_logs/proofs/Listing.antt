@@ -1,4 +1,4 @@
--- The guarantee for bytes is not empty: the rules' table and its first seven listing events, as bytes, are an instance, and the C function's answers along
+-- The guarantee for bytes is not empty: table and first seven events of the worked listing, as bytes, are an instance, and the C function's answers along
 -- them are those that the rules list. By computation.
 use Prim.Native.Nat.{ℕ}
 use mathlib.Core.Path.{_≡_, refl}

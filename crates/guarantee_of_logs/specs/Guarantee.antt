@@ -1,4 +1,4 @@
--- Demand 3 for the bytes that the C function takes.
+-- Rules, "The three demands", D3: for the bytes that the C function takes.
 use Prim.Native.Nat.{ℕ, _≤_, _<_}
 use mathlib.Core.Path.{_≡_}
 use mathlib.Core.List.{List}

@@ -1,4 +1,4 @@
--- What demand 3 promises to one task, in the order of the log.
+-- Rules, "The three demands", D3: what it promises to one task, in the order of the log.
 use Prim.Native.Nat.{ℕ, zero, suc, _+_, _≤_, _<_}
 use mathlib.Core.Path.{_≡_}
 use mathlib.Core.Bool.{Bool, true, cond}

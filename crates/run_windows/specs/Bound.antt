@@ -1,4 +1,4 @@
--- Rules, "Window": what demand 3 promises of a task's windows.
+-- Rules, "The three demands", D3: what it promises of a task's windows.
 use Prim.Native.Nat.{ℕ, _≤_}
 use mathlib.Core.Path.{_≡_}
 use mathlib.Core.Bool.{Bool}
