@@ -1,5 +1,5 @@
--- The guarantee is not empty: the events of the worked listing, as far as they obey the premise, are an instance, and so is a run whose task misses m times outside
--- the required class. By computation.
+-- The guarantee is not empty: the events of the worked listing, as far as they obey the premise, are an instance, and so is a run whose task
+-- misses m times outside the required class. By computation.
 use Prim.Native.Nat.{ℕ}
 use mathlib.Core.Path.{_≡_, refl}
 use mathlib.Core.Bool.{Bool, true, false}
