@@ -1,0 +1,89 @@
+"""The engineer's question: does the guarantee hold for this table? Bounds are the proved program's; the sentence for a task without one shows the sum that fails."""
+from .wrong import Wrong, counted, listed
+
+
+MOST_NAMED = 4  # of the tasks above, in a sentence
+
+
+def above(tasks, place):
+    """The positions of the tasks above one (Rules, "Response bound")."""
+    return [other for other, task in enumerate(tasks) if (task.D, other) < (tasks[place].D, place)]
+
+
+def parts(tasks, place, ticks):
+    """The demand in so many ticks, part by part: a task, how many jobs, and their time."""
+    yield tasks[place], 1, tasks[place].C
+    for other in above(tasks, place):
+        jobs = -(-ticks // tasks[other].T)
+        yield tasks[other], jobs, jobs * tasks[other].C
+
+
+def demand(tasks, place, ticks):
+    return sum(time for _, _, time in parts(tasks, place, ticks))
+
+
+def hold(given):
+    """The bounds that were printed are held to the demand: a bound is a demand of exactly itself, and without one the deadline is not enough."""
+    for place, (task, first) in enumerate(zip(given.tasks, given.listing.first)):
+        asked = demand(given.tasks, place, first.bound or task.D)
+        if asked != first.bound if first.bound else asked <= task.D:
+            raise Wrong(f"brumerola: the listing and the demand of {task.name} differ: bound {first.bound or '-'}, demand {asked}; this is a fault of the command")
+
+
+def failing(given):
+    """The positions that have no bound."""
+    return [place for place, first in enumerate(given.listing.first) if first.bound is None]
+
+
+def why(given, place):
+    """Why a task has no bound, in a sentence: what can be asked for up to its deadline."""
+    task = given.tasks[place]
+    asked = demand(given.tasks, place, task.D)
+    others = sorted((part for part in parts(given.tasks, place, task.D) if part[0] is not task), key=lambda part: -part[2])
+    named = others if len(others) <= MOST_NAMED + 1 else others[:MOST_NAMED]
+    sums = [f"{time:,} for {counted(jobs, 'job')} of {other.name}" for other, jobs, time in named]
+    if len(others) > len(named):
+        rest = sum(time for _, _, time in others[len(named) :])
+        sums.append(f"{rest:,} for {counted(len(others) - len(named), 'other task')}")
+    whole = f"{task.C:,} for its own job, {listed(sums)}"
+    return f"{task.name} fails: within its D of {task.D:,} ticks, it and the tasks above it can ask for {asked:,}: {whole}."
+
+
+def share(task):
+    """The share of the processor that a task can take, in percent."""
+    return 100 * task.C / task.T
+
+
+def headline(given):
+    bad = failing(given)
+    if not bad:
+        return f"{given.file}: the guarantee holds: every task has a bound."
+    names = listed(given.tasks[place].name for place in bad)
+    return f"{given.file}: the guarantee does not hold: {names} {'has' if len(bad) == 1 else 'have'} no bound."
+
+
+def rows(given):
+    """The table: a head, then a row for each task."""
+    yield "", "task", "C", "D", "T", "(m,K)", "w", "h", "bound", "slack", "load"
+    for place, (task, first) in enumerate(zip(given.tasks, given.listing.first)):
+        slack = "-" if first.bound is None else task.D - first.bound
+        misses = f"({task.m},{task.K})" if task.m else "hard"
+        yield (place, task.name, task.C, task.D, task.T, misses, first.w, first.h, "-" if first.bound is None else first.bound, slack, f"{share(task):.1f} %")
+
+
+def told(given):
+    """What is printed."""
+    yield headline(given)
+    yield ""
+    table = [[str(cell) for cell in row] for row in rows(given)]
+    widths = [max(map(len, column)) for column in zip(*table)]
+    for row in table:
+        yield "  ".join(f"{cell:<{width}}" if place == 1 else f"{cell:>{width}}" for place, (cell, width) in enumerate(zip(row, widths))).rstrip()
+    yield ""
+    yield f"All tasks can take {sum(map(share, given.tasks)):.1f} % of the processor. Slack is D less the bound."
+    for place in failing(given):
+        yield why(given, place)
+    if failing(given):
+        yield "To mend it, make a D larger, a C smaller, or a T above larger, and check again."
+    else:
+        yield "It holds while no job runs past its C: docs/RULES.md, \"Chosen time\", has the premise in full."

@@ -1,0 +1,91 @@
+"""What a file gives: its tasks and events, its bytes, and the proved program's listing of them."""
+from . import files, form, listing, programs, records, refusals
+from .wrong import Wrong, counted
+
+
+class Given:
+    """A table and a log that the listing accepted as a table; `listing` is what was printed."""
+
+    def __init__(self, path, tasks, events, raw, parsed, named):
+        self.file, self.text = files.name_of(path), bool(tasks[0].line)
+        self.tasks, self.events, self.raw, self.listing = tasks, events, raw, parsed
+        self.named = named  # whether the tasks have names of their own, and not only those that their positions give
+        self.names = [task.name for task in tasks]
+
+
+def is_bytes(raw):
+    """Whether a file is of bytes: it begins as one, or has zero bytes, as every lawful table has, and a text has none."""
+    begins = raw[1:3] == b"TK" and 1 <= raw[0] <= records.MOST_TASKS
+    return begins or b"\0" in raw and raw[:2] not in (b"\xff\xfe", b"\xfe\xff")
+
+
+def of_text(path, raw, log=True):
+    """The given of a text. The table's rules are told by the program's refusal, with the task's line and name."""
+    tasks, events = form.Reader(files.name_of(path)).read(raw)
+    if not log:
+        events = []
+    made = records.input_bytes(tasks, events)
+    text = programs.listing(made)
+    refused = listing.refusal(text)
+    if refused:
+        number, place = refused
+        task = tasks[place]
+        raise Wrong(f"{files.name_of(path)}:{task.line}: table refused {number} at {place}: task {task.name}: {refusals.of_task(number, task)}")
+    return held(path, tasks, events, made, text, True)
+
+
+def of_bytes(path, raw, names=None, log=True):
+    """The given of bytes, with the names of a table text where one is given."""
+    file = files.name_of(path)
+    if len(raw) > records.MOST_BYTES and log:
+        raise Wrong(f"{file}: the log is too long: the file has {len(raw):,} bytes, and {records.MOST_BYTES:,} are listed; cut the log")
+    if not log and raw:
+        raw = raw[: records.events_from(raw)]
+    text = programs.listing(raw)
+    refused = listing.refusal(text)
+    if refused and refused[0] in (3, 4):
+        number, place = refused
+        task = records.tasks_of(raw)[place]
+        raise Wrong(f"{file}: table refused {number} at {place}: {refusals.of_task(number, task)}")
+    if refused:
+        raise Wrong(f"{file}: table refused {refused[0]} at {refused[1]}: {refusals.of_table(*refused, raw)}")
+    tasks = records.tasks_of(raw)
+    if names:
+        tasks = named(tasks, names, file)
+    count = (len(raw) - records.events_from(raw)) // records.EVENT_SIZE
+    parsed = listing.parse(text)
+    if parsed.stop:
+        count = parsed.stop.offset // records.EVENT_SIZE
+    return held(path, tasks, records.events_of(raw, count), raw, text, bool(names))
+
+
+def held(path, tasks, events, raw, text, named):
+    """The given, once the listing has a line for each task and each event of it."""
+    parsed = listing.parse(text)
+    if len(parsed.first) != len(tasks) or len(parsed.answers) != len(events):
+        found = f"{counted(len(parsed.first), 'task')} and {counted(len(parsed.answers), 'event')}"
+        raise Wrong(f"brumerola: the listing has {found}, and the file {len(tasks)} and {len(events)}; this is a fault of the command")
+    return Given(path, tasks, events, raw, parsed, named)
+
+
+def names_from(path):
+    """The file and the tasks of the text that gives the names."""
+    return files.name_of(path), form.Reader(files.name_of(path)).read(files.read(path))[0]
+
+
+def named(tasks, names, file):
+    """The tasks with the names that a text gives to the same table."""
+    source, others = names
+    if [task[1:6] for task in others] != [task[1:6] for task in tasks]:
+        raise Wrong(f"{source}: its table is not that of {file}, so its names would be wrong; give the text that the bytes were made from")
+    return [task._replace(name=other.name) for task, other in zip(tasks, others)]
+
+
+def given(path, names=None, log=True):
+    """The table and log of a text or byte file. With `log` false the events are left out."""
+    raw = files.read(path)
+    if not is_bytes(raw):
+        if names:
+            raise Wrong(f"{files.name_of(path)}: this is text and has names; --names is for a file of bytes")
+        return of_text(path, raw, log)
+    return of_bytes(path, raw, names and names_from(names), log)
