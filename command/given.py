@@ -7,7 +7,7 @@ class Given:
     """A table and a log that the listing accepted as a table; `listing` is what was printed."""
 
     def __init__(self, path, tasks, events, raw, parsed, named):
-        self.file, self.text = files.name_of(path), bool(tasks[0].line)
+        self.file = files.name_of(path)
         self.tasks, self.events, self.raw, self.listing = tasks, events, raw, parsed
         self.named = named  # whether the tasks have names of their own, and not only those that their positions give
         self.names = [task.name for task in tasks]
@@ -69,8 +69,8 @@ def held(path, tasks, events, raw, text, named):
 
 
 def names_from(path):
-    """The file and the tasks of the text that gives the names."""
-    return files.name_of(path), form.Reader(files.name_of(path)).read(files.read(path))[0]
+    """The file and the tasks of the text that gives the names, if one is given."""
+    return path and (files.name_of(path), form.Reader(files.name_of(path)).read(files.read(path))[0])
 
 
 def named(tasks, names, file):
@@ -88,4 +88,4 @@ def given(path, names=None, log=True):
         if names:
             raise Wrong(f"{files.name_of(path)}: this is text and has names; --names is for a file of bytes")
         return of_text(path, raw, log)
-    return of_bytes(path, raw, names and names_from(names), log)
+    return of_bytes(path, raw, names_from(names), log)

@@ -39,9 +39,10 @@ def event_lines(given, lines):
     return columns(rows)
 
 
-def stop_line(given, line):
+def stopped(given):
+    """Where the reading stopped, and why."""
     stop = given.listing.stop
-    return [f"{line}   event {stop.offset // EVENT_SIZE + 1}, byte {events_from(given.raw) + stop.offset} of the file: {STOP[stop.refusal]}"]
+    return f"event {stop.offset // EVENT_SIZE + 1}, from byte {events_from(given.raw) + stop.offset} of the file on: {STOP[stop.refusal]}"
 
 
 def last_lines(given, lines):
@@ -59,5 +60,5 @@ def listing(given):
     yield from first_lines(given, lines[:tasks])
     yield from event_lines(given, lines[tasks : tasks + events])
     if given.listing.stop:
-        yield from stop_line(given, lines[tasks + events])
+        yield f"{lines[tasks + events]}   {stopped(given)}"
     yield from last_lines(given, lines[-tasks:])

@@ -3,7 +3,7 @@ import argparse
 import sys
 
 from . import check, data, files, form, lines, programs, records, timeline
-from .given import given, is_bytes, of_text
+from .given import given, is_bytes, names_from, of_bytes, of_text
 from .history import History
 from .why import Reasons
 from .wrong import Wrong, printable
@@ -49,12 +49,13 @@ def read_back(again, values, first):
 def to_text(asked):
     if asked.output:
         files.ready(asked.output, asked.file)
-    found = given(asked.file, asked.names)
+    raw = files.read(asked.file)
+    if not is_bytes(raw):
+        raise Wrong(f"{files.name_of(asked.file)}: this is no file of bytes; 'brumerola list' and 'brumerola bytes' read text")
+    found = of_bytes(asked.file, raw, names_from(asked.names))
     stop = found.listing.stop
-    if found.text:
-        raise Wrong(f"{found.file}: this is text already")
     if stop:
-        raise Wrong(f"{found.file}: {next(iter(lines.stop_line(found, f'stop {stop.refusal} at {stop.offset}')))}; no text has such bytes, so cut them off")
+        raise Wrong(f"{found.file}: stop {stop.refusal} at {stop.offset}: {lines.stopped(found)}; no text stands for this, so cut the file there")
     text = "".join(form.text_of(found.tasks, found.events))
     if records.input_bytes(*form.Reader("the text").read(text.encode())) != found.raw:
         raise Wrong("brumerola: the text does not read back as the bytes; this is a fault of the command, and nothing is written")

@@ -13,7 +13,7 @@ PROGRAM = "listing"
 BINARY = ROOT / "target/bin" / PROGRAM
 STAMP = ROOT / "target/command" / PROGRAM
 INSTALL = "install the Rattle toolchain, and put its bin folder into PATH"
-WORD = "brumerola: proving and building the listing program; 2 to 4 minutes the first time, and then only after a change of the sources\n"
+WORD = "brumerola: proving and building the listing program; this takes 2 to 4 minutes the first time, and is done again only if the sources change\n"
 
 
 def sources():
@@ -43,10 +43,25 @@ def built():
     if not BINARY.exists():
         # rt asks whether the sources have changed, and not whether the program is still there
         (ROOT / "target/stamp" / PROGRAM).unlink(missing_ok=True)
-    if subprocess.run([rt, "check", PROGRAM], cwd=ROOT, stdout=sys.stderr, stdin=subprocess.DEVNULL).returncode != 0 or not BINARY.exists():
-        raise Wrong("brumerola: the listing program could not be proved and built; the lines above say where")
+    prove(rt)
     STAMP.parent.mkdir(parents=True, exist_ok=True)
     STAMP.write_text(now)
+
+
+def prove(rt):
+    """Runs the proofs and the build. At a terminal the crates are counted as they come; what rt says is shown only if it fails."""
+    said, proved = [], 0
+    with subprocess.Popen([rt, "check", PROGRAM], cwd=ROOT, stdin=subprocess.DEVNULL, stdout=subprocess.PIPE, stderr=subprocess.STDOUT, text=True) as run:
+        for line in run.stdout:
+            said.append(line)
+            proved += " proved" in line and "crates" not in line
+            if sys.stderr.isatty():
+                sys.stderr.write(f"\r{proved} crates proved")
+    if sys.stderr.isatty():
+        sys.stderr.write("\n")
+    if run.returncode != 0 or not BINARY.exists():
+        sys.stderr.writelines(said)
+        raise Wrong("brumerola: the listing program could not be proved and built; the lines above say why")
 
 
 def start():

@@ -17,7 +17,7 @@ def sources(kind, suffix):
 
 def texts():
     """Every file of the repository that is text, with what it says."""
-    for top in (".ci", "README.md", "crates", "crates.txt", "docs", "examples", "include", "tests"):
+    for top in (".ci", "README.md", "brumerola", "command", "crates", "crates.txt", "docs", "examples", "include", "tests"):
         for path in sorted([ROOT / top, *(ROOT / top).rglob("*")]):
             if path.is_file() and "__pycache__" not in path.parts:
                 try:
