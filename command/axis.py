@@ -1,7 +1,7 @@
 """Time across the picture: where a tick stands, which long stretches without a mark are cut, and which times are written at the axis."""
 from bisect import bisect_right
 
-LONGEST = 260  # a stretch that would be wider and has no mark in it is cut
+LONGEST = 420  # a stretch that would be wider and has no mark in it is cut
 CUT = 34  # the width that a cut leaves of it
 MIDDLE = 15  # the width of the middle one of the gaps between marks
 MOST = 20000  # all of a long log; a part of it can be drawn wider

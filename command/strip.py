@@ -1,5 +1,6 @@
 """One strip of the picture: a row for each task over a part of the time, with the axis below, and then the sentences for what went wrong in it."""
 import textwrap
+from itertools import groupby
 
 from . import look, svg
 from .form import event_text
@@ -124,40 +125,52 @@ class Strip:
         return svg.text(x + 8, y, words, "bad") if x + 12 + 8 * len(words) < WIDTH else svg.text(x - 8, y, words, "bad", "end")
 
     def refused(self):
-        """A flag and its number above the rows, and a diamond in the row of the event's task."""
-        written = -100.0
-        for refused in self.scene.refused:
-            x = self.x(refused.at)
+        """A flag and the numbers above the rows for each time, and a diamond in the row of an event's task."""
+        free = 0.0
+        for time, refused in groupby(sorted(self.scene.refused, key=lambda one: one.at), key=lambda one: one.at):
+            x, refused = self.x(time), list(refused)
             if x is None:
                 continue
             yield look.flag(x, 0)
-            if x - written > 24:
-                yield svg.text(x + 6, 13, str(refused.refusal), "bad")
-                written = x
-            if refused.event.kind != TICK and refused.event.task < self.count:
-                yield look.diamond(x, self.y(refused.event.task))
+            words = ", ".join(dict.fromkeys(str(one.refusal) for one in refused))
+            if x >= free:
+                yield self.beside(x - 2, 13, words)
+                free = x + 14 + 8 * len(words)
+            rows = {one.event.task for one in refused if one.event.kind != TICK and one.event.task < self.count}
+            yield from (look.diamond(x, self.y(task)) for task in rows)
 
     def times(self):
         """The axis, the times written at it, accepted ticks, what a cut leaves out, and the end of the log."""
         y = self.body
         yield svg.line(self.left, y, self.right, y, "axis")
-        for time in self.scene.axis.written():
-            yield self.signs(time, lambda x: svg.line(x, y, x, y + 5, "axis") + svg.text(x, y + 17, f"{time:,}", anchor="middle"))
+        yield from self.written(((time, f"{time:,}") for time in self.scene.axis.written()), y + 17, 7.0, "axis")
+        yield from self.written(((start, f"{end - start:,} cut") for start, end in self.scene.axis.cuts), y + 29, 5.4, "small")
         for time in self.scene.ticks:
             yield self.signs(time, lambda x: look.ticked(x, y))
-        for start, end in self.scene.axis.cuts:
-            middle = self.signs(start, lambda x: svg.text(x + 2, y + 29, f"{end - start:,} cut", "small"))
-            yield middle
-        yield self.signs(self.scene.now, lambda x: svg.line(x, 2, x, y + 6, "end") + svg.text(x - 4, y + 29, "end of the log", "small", "end"))
+        yield self.signs(self.scene.now, lambda x: svg.line(x, 2, x, y + 6, "end") + svg.text(x - 4, 10, "end of the log", "small", "end"))
+
+    def written(self, labels, y, letter, kind):
+        """Words at their times; those that would run into the one before, or out of the page, are moved or left out."""
+        free = 0.0
+        for time, words in labels:
+            x, wide = self.x(time), letter * len(words)
+            if x is None:
+                continue
+            if kind == "axis":
+                yield svg.line(x, self.body, x, self.body + 5, "axis")
+            start = min(x - wide / 2 if kind == "axis" else x + 3, WIDTH - wide - 2)
+            if start >= free:
+                yield svg.text(start + wide / 2, y, words, None if kind == "axis" else kind, "middle")
+                free = start + wide + 6
 
     def sentences(self):
         """Why each missed job of the strip was missed, and what was refused in it."""
         missed = sorted((job for job in self.jobs if job.met is False and self.x(job.deadline) is not None), key=lambda job: (job.deadline, job.task))
         yield from (f"\u2717 {self.reasons.why(job)}" for job in missed[:MOST_NOTES])
         if len(missed) > MOST_NOTES:
-            yield f"\u2717 and {len(missed) - MOST_NOTES} more missed jobs; --json tells of all"
+            yield f"\u2717 and {len(missed) - MOST_NOTES} more missed jobs; 'brumerola timeline --json' tells why"
         refused = [refused for refused in self.scene.refused if self.x(refused.at) is not None]
         for one in refused[:MOST_NOTES]:
             yield f"\u25bd event {one.number}, {event_text(one.event, self.names)}, refused {one.refusal}: {EVENT[one.refusal]}."
         if len(refused) > MOST_NOTES:
-            yield f"\u25bd and {len(refused) - MOST_NOTES} more refused events; brumerola list tells all"
+            yield f"\u25bd and {len(refused) - MOST_NOTES} more refused events; 'brumerola list' shows them"

@@ -62,7 +62,7 @@ def ends(history):
 def table(history, y):
     """How each task ended, by the listing's last lines."""
     heads = ("task", "met", "missed", "open", "missed of the last K", "allowed", "broken at job")
-    places = (10, 190, 250, 320, 440, 520, 640)
+    places = [10, *(left_edge(history.given.names) + more for more in (64, 124, 184, 304, 374, 474))]
     yield svg.text(10, y, "At the end", "name")
     for x, head in zip(places, heads):
         yield svg.text(x, y + 18, head, "small", None if x == 10 else "end")
