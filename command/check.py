@@ -1,4 +1,6 @@
-"""The engineer's question: does the guarantee hold for this table? Bounds are the proved program's; the sentence for a task without one shows the sum that fails."""
+"""The engineer's question: does the guarantee hold for this table?
+
+Bounds are the proved program's. The sentence for a task without one shows the sum that fails."""
 from .wrong import Wrong, counted, listed
 
 
@@ -27,7 +29,8 @@ def hold(given):
     for place, (task, first) in enumerate(zip(given.tasks, given.listing.first)):
         asked = demand(given.tasks, place, first.bound or task.D)
         if asked != first.bound if first.bound else asked <= task.D:
-            raise Wrong(f"brumerola: the listing and the demand of {task.name} differ: bound {first.bound or '-'}, demand {asked}; this is a fault of the command")
+            bound = first.bound or "-"
+            raise Wrong(f"brumerola: the listing and the demand of {task.name} differ: bound {bound}, demand {asked}; this is a fault of the command")
 
 
 def failing(given):

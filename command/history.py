@@ -1,5 +1,6 @@
-"""What became of each job. The listing prints what is accepted, refused and chosen; which job closed as missed follows from the accepted releases and completions.
+"""What became of each job.
 
+The listing prints what is accepted, refused and chosen; which job closed as missed follows from the accepted releases and completions.
 Every count that is worked out here is held to the listing's own, at each run: a difference is an error."""
 from collections import namedtuple
 

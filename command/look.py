@@ -1,4 +1,6 @@
-"""How the picture looks: colours, signs, and the legend that explains them. It can be read without colour: signs differ by shape, classes by lightness and a digit."""
+"""How the picture looks: colours, signs, and the legend that explains them.
+
+It can be read without colour: signs differ by shape, classes by lightness and a digit."""
 from . import svg
 
 STYLE = """

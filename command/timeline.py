@@ -1,10 +1,12 @@
 """The picture of a log as one page: what it is of, the legend, strips of time one below the other, and how each task ended."""
+import textwrap
+
 from . import look, svg
+from .refusals import STOP
 from .scene import Scene
-from .strip import RIGHT, WIDTH, Strip
+from .strip import COLUMNS, LINE, RIGHT, WIDTH, Strip
 from .why import Reasons
 from .wrong import counted, listed
-
 
 WIDEST = 4  # a short log is drawn at most so many times as wide
 EARLIEST = 0.7  # a strip is filled at least so far
@@ -38,25 +40,32 @@ def breaks(scene, width):
     return [*ends, axis.length]
 
 
-def summary(history, scene):
-    """The line below the title."""
+def ended(history):
+    """Each task with the listing's last line of it."""
+    return list(zip(history.given.tasks, history.given.listing.last))
+
+
+def summary(history):
+    """What the log came to, as sentences and how they look: its events and jobs, where its reading stopped, and which windows were broken."""
     jobs = history.jobs()
     met, missed = sum(job.met is True for job in jobs), sum(job.met is False for job in jobs)
+    events = counted(len(history.given.events), "event")
     refused = len(history.given.events) - history.accepted
-    yield f"{counted(len(history.given.events), 'event')}, {refused} refused. {counted(met, 'job')} met, {missed} missed, {len(jobs) - met - missed} open."
+    yield f"{events}, {refused} refused. {counted(met, 'job')} met, {missed} missed, {len(jobs) - met - missed} open.", None
     stop = history.given.listing.stop
     if stop:
-        yield f"The log does not read from byte {stop.offset} of its events on (refusal {stop.refusal})."
+        yield f"The log was read up to byte {stop.offset} of its events and stopped there: {STOP[stop.refusal]} (refusal {stop.refusal}).", "bad"
+    broken = [f"{task.name} at job {last.broken} (more than {task.m} of {task.K})" for task, last in ended(history) if last.broken]
+    yield (f"Broken windows: {listed(broken)}.", "bad") if broken else ("No window was broken.", None)
 
 
-def broken(history):
-    """Which windows were broken, in one line, and whether there is one."""
-    found = [f"{task.name} at job {last.broken} (more than {task.m} of {task.K})" for task, last in ends(history) if last.broken]
-    return f"Broken windows: {listed(found)}." if found else "No window was broken."
-
-
-def ends(history):
-    return list(zip(history.given.tasks, history.given.listing.last))
+def head(history):
+    """The title, the summary and the legend, and the height that they take."""
+    lines = [(line, kind) for words, kind in summary(history) for line in textwrap.wrap(words, COLUMNS)]
+    page = [svg.text(10, 26, history.given.file, "head")]
+    page.extend(svg.text(10, 46 + LINE * place, line, kind) for place, (line, kind) in enumerate(lines))
+    bottom = 46 + LINE * len(lines)
+    return page + [svg.group(look.legend(10, bottom - 8), "legend")], bottom + 32
 
 
 def table(history, y):
@@ -64,28 +73,23 @@ def table(history, y):
     heads = ("task", "met", "missed", "open", "missed of the last K", "allowed", "broken at job")
     places = [10, *(left_edge(history.given.names) + more for more in (64, 124, 184, 304, 374, 474))]
     yield svg.text(10, y, "At the end", "name")
-    for x, head in zip(places, heads):
-        yield svg.text(x, y + 18, head, "small", None if x == 10 else "end")
-    for row, (task, last) in enumerate(ends(history)):
+    for x, words in zip(places, heads):
+        yield svg.text(x, y + 18, words, "small", None if x == 10 else "end")
+    for row, (task, last) in enumerate(ended(history)):
         cells = (f"{row} {task.name}", last.met, last.missed, last.open, f"{last.window} of {task.K}", task.m, last.broken or "-")
         for x, cell in zip(places, cells):
-            yield svg.text(x, y + 34 + 15 * row, str(cell), "bad" if last.broken else None, None if x == 10 else "end")
+            yield svg.text(x, y + 34 + LINE * row, str(cell), "bad" if last.broken else None, None if x == 10 else "end")
 
 
 def draw(history, start=None, end=None):
-    """The whole picture."""
+    """The whole picture, or the part of it from tick `start` to tick `end`."""
+    page, y = head(history)
     scene = Scene(history, start, end)
-    strips = strips_of(scene, Reasons(history))
-    page = [svg.text(10, 26, history.given.file, "head")]
-    page.append(svg.text(10, 46, " ".join(summary(history, scene))))
-    page.append(svg.text(10, 63, broken(history), "bad" if any(last.broken for _, last in ends(history)) else None))
-    page.extend(look.legend(10, 70))
-    y = 112
-    for strip in strips:
+    for strip in strips_of(scene, Reasons(history)):
         page.append(svg.group(strip.drawn(), place=f"translate(0 {y})"))
         y += strip.height
     page.extend(table(history, y + 16))
-    height = y + 16 + 34 + 15 * len(history.courses) + 6
-    head = f'<svg xmlns="http://www.w3.org/2000/svg" width="{WIDTH}" height="{height}" viewBox="0 0 {WIDTH} {height}">'
+    height = y + 56 + LINE * len(history.courses)
+    opening = f'<svg xmlns="http://www.w3.org/2000/svg" width="{WIDTH}" height="{height}" viewBox="0 0 {WIDTH} {height}">'
     body = "\n".join(part for part in page if part)
-    return f"{head}\n<style>{look.STYLE}</style>\n<defs>{look.PATTERNS}</defs>\n{svg.rect(0, 0, WIDTH, height, 'page')}\n{body}\n</svg>\n"
+    return f"{opening}\n<style>{look.STYLE}</style>\n<defs>{look.PATTERNS}</defs>\n{svg.rect(0, 0, WIDTH, height, 'page')}\n{body}\n</svg>\n"
