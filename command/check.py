@@ -67,7 +67,7 @@ def headline(given):
 
 def rows(given):
     """The table: a head, then a row for each task."""
-    yield "", "task", "C", "D", "T", "(m,K)", "w", "h", "bound", "slack", "load"
+    yield "", "task", "C", "D", "T", "(m,K)", "w", "h", "bound", "slack", "utilisation"
     for place, (task, first) in enumerate(zip(given.tasks, given.listing.first)):
         slack = "-" if first.bound is None else task.D - first.bound
         misses = f"({task.m},{task.K})" if task.m else "hard"
@@ -83,7 +83,7 @@ def told(given):
     for row in table:
         yield "  ".join(f"{cell:<{width}}" if place == 1 else f"{cell:>{width}}" for place, (cell, width) in enumerate(zip(row, widths))).rstrip()
     yield ""
-    yield f"All tasks can take {sum(map(share, given.tasks)):.1f} % of the processor. Slack is D less the bound."
+    yield f"Together they can take {sum(map(share, given.tasks)):.1f} % of the processor. Slack is D less the bound."
     for place in failing(given):
         yield why(given, place)
     if failing(given):

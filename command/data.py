@@ -46,9 +46,9 @@ def checked(given):
     for place, values in enumerate(found):
         bound = values["bound"]
         values["slack"] = None if bound is None else values["D"] - bound
-        values["load"] = check.share(given.tasks[place]) / 100
+        values["utilisation"] = check.share(given.tasks[place]) / 100
         values["why"] = check.why(given, place) if bound is None else None
-    return {"holds": not check.failing(given), "load": sum(values["load"] for values in found), "tasks": found}
+    return {"holds": not check.failing(given), "utilisation": sum(values["utilisation"] for values in found), "tasks": found}
 
 
 def job(job, name, reasons):

@@ -107,7 +107,7 @@ def parser():
     form_of = part.add_mutually_exclusive_group()
     form_of.add_argument("--plain", action="store_true", help="the proved program's text as it is")
     form_of.add_argument("--json", action="store_true", help="the same for a screen to read")
-    part = command("check", "whether the guarantee holds for a table: bounds, slack and load of each task, and why one fails", check_table,
+    part = command("check", "whether the guarantee holds for a table: bounds, slack and utilisation of each task, and why one fails", check_table,
                    "a table as text or bytes; a log behind it is left out; - is standard input")
     part.add_argument("--json", action="store_true", help="the same for a screen to read")
     part = command("timeline", "a picture of the log: who ran when, which jobs were missed, and why", draw)
