@@ -15,7 +15,7 @@ needs() {
     wanted=$1
     shift
     { packages install -y "$@" || { packages update && packages install -y "$@"; }; } >/dev/null 2>&1 && return 0
-    echo "$wanted is not here, and $* could not be installed: install it as root, then run this again" >&2
+    echo "$wanted is not here: install it as root (apt-get install $*), then run this again" >&2
     return 1
 }
 
@@ -31,10 +31,10 @@ emulator() {
 
 compiler() {
     if [ "$(uname -m)" = x86_64 ]; then
-        needs gcc gcc libc6-dev || exit 1
+        needs gcc gcc libc6-dev || return 1
         cc=gcc
     else
-        needs x86_64-linux-gnu-gcc gcc-x86-64-linux-gnu libc6-dev-amd64-cross || exit 1
+        needs x86_64-linux-gnu-gcc gcc-x86-64-linux-gnu libc6-dev-amd64-cross || return 1
         cc=x86_64-linux-gnu-gcc
     fi
 }

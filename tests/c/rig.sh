@@ -5,20 +5,9 @@ cd "$(dirname "$(readlink -f "$0")")/../.."
 . tests/machine.sh
 compiler
 mkdir -p target/tests
-
-# says TEXT COMMAND..: the command ends well, and this line is all that it writes
-says() {
-    echo "$1" >target/tests/right
-    shift
-    "$@" >target/tests/said
-    cmp target/tests/said target/tests/right
-}
-
-# the README's example, which builds the library: the line's log ends with no job open, and without its last event with the tension's
-says "no job is open" examples/choice.sh
-head -c -20 examples/line.bin >target/tests/line.bin
-# shellcheck disable=SC2086
-says "task 2 runs" $run target/tests/choice target/tests/line.bin
+# the C example, which builds the library, and the shell examples
+tests/c/choice.sh
+tests/examples.sh
 client -static -o target/tests/rig
 $run target/tests/rig tests/cases/rig
 if [ -z "$run" ]; then
