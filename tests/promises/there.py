@@ -41,4 +41,5 @@ for path in sources("src", ".rt"):
     here = set(re.findall(r"\b(?:fn|struct|enum|const) (\w+)", text)) | set(re.findall(r"^    (?:pub )?(\w+)(?:: | \{|,|\()", text, re.M))
     functions.setdefault(path.stem, set()).update(here | {crate})
     functions.setdefault(crate, set()).update(here | {path.stem})
-names = crates | set(declared) | set(functions) | set().union(*declared.values(), *functions.values())
+parts = {path.stem for path in (ROOT / "command").glob("*.py")}  # of the command for people
+names = parts | crates | set(declared) | set(functions) | set().union(*declared.values(), *functions.values())
