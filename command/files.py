@@ -19,6 +19,8 @@ def read(path):
     try:
         with open(sys.stdin.fileno() if path == "-" else path, "rb", closefd=path != "-") as file:
             raw = file.read(MOST + 1)
+    except AttributeError:  # Python has no stream where one was closed
+        raise Wrong("standard input: it is closed; open it") from None
     except (OSError, ValueError) as wrong:
         raise told(name_of(path), wrong) from None
     if len(raw) > MOST:
@@ -58,9 +60,9 @@ def write(path, content):
     """Writes a file beside its place and moves it there once it is whole; what is no plain file, such as a pipe, is written as it is."""
     place = os.path.realpath(path)
     try:
-        mode = os.stat(place).st_mode if os.path.exists(place) else None
+        mode = os.stat(path).st_mode if os.path.exists(path) else None
         if mode is not None and not stat.S_ISREG(mode):
-            with open(place, "wb") as file:
+            with open(path, "wb") as file:
                 file.write(content)
             return
         part = f"{place}.{os.getpid()}.part"

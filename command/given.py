@@ -70,7 +70,7 @@ def held(path, tasks, events, raw, text, named):
 
 def names_from(path):
     """The file and the tasks of the text that gives the names, if one is given."""
-    return path and (files.name_of(path), form.Reader(files.name_of(path)).read(files.read(path))[0])
+    return None if path is None else (files.name_of(path), form.Reader(files.name_of(path)).read(files.read(path))[0])
 
 
 def named(tasks, names, file):
@@ -85,7 +85,7 @@ def given(path, names=None, log=True):
     """The table and log of a text or byte file. With `log` false the events are left out."""
     raw = files.read(path)
     if not is_bytes(raw):
-        if names:
+        if names is not None:
             raise Wrong(f"{files.name_of(path)}: this is text and has names; --names is for a file of bytes")
         return of_text(path, raw, log)
     return of_bytes(path, raw, names_from(names), log)
