@@ -31,7 +31,7 @@ class Reader:
             if not words:
                 continue
             if words[0] not in SHAPES:
-                raise self.wrong(f"{shown(words[0])} begins no line; task, tick, release, complete and # do")
+                raise self.wrong(f"no line begins with {shown(words[0])}; begin it with task, release, complete, tick or #")
             if words[0] == "task":
                 self.task(words)
             else:
