@@ -16,10 +16,11 @@ import good
 import lies
 import picture
 import round
+import stored
 from there import differs, ready
 
 ready()
-counts = [part.look() for part in (bad, good, example, round, picture, lies)]
+counts = [part.look() for part in (bad, good, example, stored, round, picture, lies)]
 print("\n".join(differs))
 print(f"{', '.join(counts)}, {len(differs)} differ")
 sys.exit(1 if differs else 0)

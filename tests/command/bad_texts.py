@@ -3,6 +3,7 @@ TASK = "task a C 1 D 2 T 3 m 0 K 1\n"
 SHAPE = "'task NAME C N D N T N m N K N'"
 NUMBER = "a whole number from 0 to"
 NO_NAME = "is no name; a name is a letter, then letters, digits, '_', '-' and '.'"
+BEGIN = "begin it with task, release, complete, tick or #"
 NO_TASK = f"in.txt: there is no task in it; a line such as {SHAPE} is one, with a number for each N"
 FULL = TASK + "tick at 0\n" * 3275  # 1 + 16 + 20 * 3275 = 65,517 bytes: no event more fits into 65,536
 SIXTEEN = "".join(f"task t{n} C 1 D 2 T 3 m 0 K 1\n" for n in range(16))
@@ -38,11 +39,11 @@ TOO_LARGE = [
 ]
 
 WORDS = [
-    ("a line of another kind", TASK + "relase a at 2", "in.txt:2: 'relase' begins no line; task, tick, release, complete and # do"),
-    ("a capital letter", "Task a C 1 D 2 T 3 m 0 K 1", "in.txt:1: 'Task' begins no line; task, tick, release, complete and # do"),
-    ("a comment of another language", TASK + "// a note", "in.txt:2: '//' begins no line; task, tick, release, complete and # do"),
-    ("a very long word", "x" * 50, f"in.txt:1: '{'x' * 40}..' begins no line; task, tick, release, complete and # do"),
-    ("an escape sequence", "\x1b[31mtask", "in.txt:1: '\\x1b[31mtask' begins no line; task, tick, release, complete and # do"),
+    ("a line of another kind", TASK + "relase a at 2", f"in.txt:2: no line begins with 'relase'; {BEGIN}"),
+    ("a capital letter", "Task a C 1 D 2 T 3 m 0 K 1", f"in.txt:1: no line begins with 'Task'; {BEGIN}"),
+    ("a comment of another language", TASK + "// a note", f"in.txt:2: no line begins with '//'; {BEGIN}"),
+    ("a very long word", "x" * 50, f"in.txt:1: no line begins with '{'x' * 40}..'; {BEGIN}"),
+    ("an escape sequence", "\x1b[31mtask", f"in.txt:1: no line begins with '\\x1b[31mtask'; {BEGIN}"),
     ("a word too many in a task", "task a C 1 D 2 T 3 m 0 K 1 hard", f"in.txt:1: 'hard' is a word too many; {SHAPE} ends before it"),
     ("a word too many in a tick", TASK + "tick at 2 ms", "in.txt:2: 'ms' is a word too many; 'tick at TIME' ends before it"),
     ("a word too many in a release", TASK + "release a at 2 3", "in.txt:2: '3' is a word too many; 'release NAME at TIME' ends before it"),
