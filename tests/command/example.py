@@ -4,7 +4,7 @@ from concurrent.futures import ThreadPoolExecutor
 
 import checks
 from parsed import of_json, of_list, of_text
-from there import COMMAND, EXAMPLE, ROOT, Ended, folder_with, hold, run
+from there import COMMAND, EXAMPLE, ROOT, Ended, call, folder_with, hold, run
 
 PLAIN = (ROOT / "examples/line.out").read_bytes()
 BYTES = ROOT / "examples/line.bin"
@@ -63,9 +63,9 @@ def elsewhere(folder):
         hold("through a link", run(["list", "--plain", str(EXAMPLE)], other, command=f"{folder}/link"), Ended(0, PLAIN, ""))
 
 
-def helps(run_all):
-    commands = [[], ["list"], ["check"], ["timeline"], ["bytes"], ["text"]]
-    for args, found in zip(commands, run_all([[*args, "--help"] for args in commands])):
+def helps(folder):
+    for args, how in ([], run), (["list"], call), (["check"], call), (["timeline"], run), (["bytes"], call), (["text"], call):
+        found = how([*args, "--help"], folder)
         shown = found.out.decode().split()
         hold(f"help of {args}", (found.status, shown[:2 + len(args)], found.err), (0, ["usage:", "brumerola", *args], ""))
 
@@ -78,6 +78,6 @@ def look():
         screens(run_all)
         there_and_back(run_all, folder)
         elsewhere(folder)
-        helps(run_all)
+        helps(folder)
     count = checks.tables()
     return f"22 runs on the example, {count} tables checked"

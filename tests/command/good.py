@@ -60,7 +60,7 @@ def files():
         with folder_with({source: PLAIN, "old.bin": "older"}) as folder:
             os.chmod(f"{folder}/old.bin", 0o640)
             os.symlink("old.bin", f"{folder}/link")
-            if hold(name, (*run(args, folder),), (0, b"", "")):
+            if hold(name, (*call(args, folder),), (0, b"", "")):
                 hold(f"{name}: bytes", open(f"{folder}/{made}", "rb").read(), BYTES)
                 hold(f"{name}: files", sorted(os.listdir(folder)), sorted({source, "old.bin", "link", made}))
             hold(f"{name}: permissions of an older output", os.stat(f"{folder}/old.bin").st_mode & 0o777, 0o640)

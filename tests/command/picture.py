@@ -10,7 +10,7 @@ from scale import Scale
 from there import EXAMPLE, ROOT, call, folder_with, hold
 
 SIGNS = {"met": "met", "cross": "missed"}
-NEAR = 0.11  # places have one digit behind the point
+ALL = range(10**14)
 
 
 def name_of(place, names):
@@ -23,10 +23,15 @@ def told(job, names):
     return f"{name_of(job.place, names)} {job.number}: class {job.cls}, released at {job.release}, due at {job.deadline}, {ended}"
 
 
-def counts(what, page, line):
-    """Ticks and crosses of each row, and the table below, are the listing's last lines."""
+def ended(job):
+    """The time at which the sign of a closed job stands; -1 for an open one."""
+    return {"met": job.closed, "missed": job.deadline, "open": -1}[job.state]
+
+
+def counts(what, page, line, part):
+    """Ticks and crosses of each row are the jobs that ended in the part; the table below is the listing's last lines."""
     drawn = Counter((SIGNS[sign.kind], sign.row) for strip in page.strips for sign in strip.signs if sign.kind in SIGNS)
-    hold(f"{what}: signs by row", drawn, Counter((job.state, job.place) for job in line.jobs() if job.state != "open"))
+    hold(f"{what}: signs by row", drawn, Counter((job.state, job.place) for job in line.jobs() if ended(job) in part))
     for cells, task in zip(page.table(), line.tasks):
         words = task.last_line().split()
         wanted = [words[3], words[5], words[7], f"{words[9]} of {task.K}", str(task.m), words[11] if task.broken else "-"]
@@ -34,12 +39,16 @@ def counts(what, page, line):
     hold(f"{what}: rows of the table", len(page.table()), len(line.tasks))
 
 
-def jobs(what, page, line, names, now):
+def jobs(what, page, line, names, now, part):
     """Each job has its release, its deadline and its bars in its row, at their times."""
     wanted = {told(job, names): job for job in line.jobs()}
     seen = Counter()
     for strip in page.strips:
         scale = Scale(strip)
+        if strip is page.strips[0]:
+            scale.note(part.start, strip.left, "the left edge")
+        if strip is page.strips[-1] and part.stop != ALL.stop:
+            scale.note(part.stop - 1, strip.right, "the right edge")
         for group in strip.groups:
             job = wanted.get(group.title.split(";")[0])
             if job is None:
@@ -53,7 +62,8 @@ def jobs(what, page, line, names, now):
             bars(scale, group, job, now)
         ends(scale, strip, line)
         hold(f"{what}: places and times", scale.wrong(), [])
-    hold(f"{what}: releases and deadlines", seen, Counter((job, kind) for job in line.jobs() for kind in ("up", "down")))
+    times = [(job, "up", job.release) for job in line.jobs()] + [(job, "down", job.deadline) for job in line.jobs()]
+    hold(f"{what}: releases and deadlines", seen, Counter((job, kind) for job, kind, time in times if time in part))
 
 
 def bars(scale, group, job, now):
@@ -79,7 +89,7 @@ def ends(scale, strip, line):
     scale.note_all(ticks, sorted(sign.x for sign in strip.signs if sign.kind == "tick"), "tick")
 
 
-def choice(what, page, line, names, now):
+def choice(what, page, line, names, now, part):
     """At every tick the bar that is drawn is the job that the rules choose; where ticks are many, at every tick at which something changes."""
     drawn = {}
     for strip in page.strips:
@@ -88,7 +98,7 @@ def choice(what, page, line, names, now):
             if span:
                 drawn[tuple(map(int, span.split(" to ")))] = job, group.bars[0].kind, group.digit
     steps = {time for time, _ in line.choices} | {edge for span in drawn for edge in span} | {job.deadline for job in line.jobs()}
-    ticks = range(now) if now < 3000 else sorted(tick for tick in steps if tick < now)
+    ticks = range(part.start, min(now, part.stop - 1)) if now < 3000 else sorted(tick for tick in steps if tick < now and tick + 1 in part and tick in part)
     spans, wanted, at = sorted(drawn), [], 0
     found = follow_spans(ticks, spans, drawn)
     for tick in ticks:
@@ -112,7 +122,7 @@ def follow_spans(ticks, spans, drawn):
     return found
 
 
-def refused(what, page, line):
+def refused(what, page, line, part):
     """A flag for each time of a refusal, and a diamond in the row of each refused event's task; returns the last time of the picture."""
     clock, times, rows = 0, set(), set()
     for event, answer in zip(line.events, line.answers):
@@ -123,27 +133,28 @@ def refused(what, page, line):
         else:
             clock = event[3]
     drawn = Counter(sign.kind for strip in page.strips for sign in strip.signs)
-    hold(f"{what}: flags and diamonds", (drawn["flag"], drawn["diamond"]), (len(times), len(rows)))
+    hold(f"{what}: flags and diamonds", (drawn["flag"], drawn["diamond"]), (sum(at in part for at in times), sum(at in part for at, _ in rows)))
     return max([line.clock, *times])
 
 
-def held(what, raw, names, svg, why):
-    """One picture."""
+def held(what, raw, names, svg, why, part):
+    """One picture, of all ticks or of a part of them."""
     page, line = Page(svg), followed(raw)
     hold(f"{what}: outside the page", page.outside()[:3], [])
     hold(f"{what}: rows", {tuple(strip.names) for strip in page.strips}, {tuple(f"{place} {name_of(place, names)}" for place in range(len(line.tasks)))})
-    now = refused(what, page, line)
-    counts(what, page, line)
-    jobs(what, page, line, names, now)
-    choice(what, page, line, names, now)
-    reasons.held(what, page, line, names, why)
+    now = refused(what, page, line, part)
+    counts(what, page, line, part)
+    jobs(what, page, line, names, now, part)
+    choice(what, page, line, names, now, part)
+    reasons.held(what, page, line, names, why, part)
 
 
 def cases():
-    """A name, bytes, and names of tasks."""
+    """A name, bytes, and names of tasks, and from when to when it is drawn where it is a part."""
     names = [words.split()[1] for words in EXAMPLE.read_text().splitlines() if words.startswith("task ")]
-    yield "the example", (ROOT / "examples/line.bin").read_bytes(), names
-    for path in sorted((ROOT / "tests/cases/listing").glob("*.in")):
+    for part in (), (1200, 1800), (0, 97), (1304, 1744), (2100, 9999):
+        yield f"the example {part}", (ROOT / "examples/line.bin").read_bytes(), names, *part
+    for path in sorted((ROOT / "tests/cases/listing").glob("*.in"))[::2]:
         raw = path.read_bytes()
         if path.with_suffix(".out").read_text().startswith("task") and len(raw) < 10000:
             yield f"tests/cases/listing/{path.name}", raw, None
@@ -157,10 +168,12 @@ def cases():
 
 def look():
     count = 0
-    for what, raw, names in cases():
+    for what, raw, names, *part in cases():
         with folder_with({"in.bin": raw}) as folder:
             args = ["in.bin", *(["--names", str(EXAMPLE)] if names else [])]
-            if hold(f"{what}: drawn", (*call(["timeline", *args, "-o", "out.svg"], folder),), (0, b"", "")):
-                held(what, raw, names, open(f"{folder}/out.svg", encoding="utf-8").read(), call(["timeline", *args, "--json"], folder).out)
+            words = ["--from", str(part[0]), "--to", str(part[1])] if part else []
+            if hold(f"{what}: drawn", (*call(["timeline", *args, *words, "-o", "out.svg"], folder),), (0, b"", "")):
+                why = call(["timeline", *args, "--json"], folder).out
+                held(what, raw, names, open(f"{folder}/out.svg", encoding="utf-8").read(), why, range(part[0], part[1] + 1) if part else ALL)
         count += 1
     return f"{count} pictures"

@@ -18,9 +18,9 @@ def chosen_at(line):
     return lambda tick: line.choices[bisect_right(times, tick) - 1][1]
 
 
-def held(what, page, line, names, why):
+def held(what, page, line, names, why, part):
     told = json.loads(why)["jobs"]
-    at, missed = chosen_at(line), 0
+    at = chosen_at(line)
     for job, data in zip(line.jobs(), told):
         wanted = {"position": job.place, "job": job.number, "class": job.cls, "release": job.release, "deadline": job.deadline, "state": job.state,
                   "closed": job.closed, "event": job.event}
@@ -29,16 +29,15 @@ def held(what, page, line, names, why):
         if job.state == "missed" and job.deadline - job.release <= MOST_TICKS:
             counted(what, line, job, data["why"], at, names)
     hold(f"{what}: jobs as JSON", len(told), len(line.jobs()))
-    sentences(what, page, told)
+    sentences(what, page, [job["why"] for job in told if job["why"] and job["deadline"] in part])
 
 
-def sentences(what, page, told):
+def sentences(what, page, reasons):
     """Below the strips stand the sentences of the missed jobs, up to twelve for a strip."""
-    reasons = {job["why"] for job in told if job["why"]}
     notes = [note[2:] for strip in page.strips for note in strip.notes() if note.startswith("\u2717")]
     full = [note for note in notes if not note.startswith("and ")]
     more = sum(int(note.split()[1]) for note in notes if note.startswith("and "))
-    hold(f"{what}: sentences below the strips", len(full) + more, sum(job["why"] is not None for job in told))
+    hold(f"{what}: sentences below the strips", len(full) + more, len(reasons))
     hold(f"{what}: sentences that no job has", [note for note in full if " ".join(note.split()) not in {" ".join(reason.split()) for reason in reasons}][:1], [])
 
 

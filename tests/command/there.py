@@ -1,5 +1,5 @@
 """Where the command is, how it is run as a process or called in this one, and the list of what differs."""
-import io
+import contextlib
 import os
 import pathlib
 import subprocess
@@ -38,18 +38,42 @@ def run(args, folder, stdin=b"", command=COMMAND, **more):
 
 
 def call(args, folder):
-    """Calls the command in this process, as if in that folder: some hundred times as fast."""
+    """Calls the command in this process, as if in that folder: some twenty times as fast."""
     from command.main import main
 
-    before, out, err = os.getcwd(), io.TextIOWrapper(io.BytesIO(), encoding="utf-8"), io.StringIO()
+    before = os.getcwd()
     os.chdir(folder)
-    with open(os.devnull) as nothing, mock.patch.multiple(sys, argv=["brumerola", *args], stdin=nothing, stdout=out, stderr=err):
-        try:
-            status = main()
-        except Exception as wrong:
-            status = f"a traceback, {wrong!r}"
-    os.chdir(before)
-    return Ended(status, out.buffer.getvalue(), err.getvalue())
+    with tempfile.TemporaryFile() as out, tempfile.TemporaryFile() as err, mock.patch.object(sys, "argv", ["brumerola", *args]):
+        with streams(out, err):
+            try:
+                status = main()
+            except SystemExit as ended:
+                status = ended.code
+            except Exception as wrong:
+                status = f"a traceback, {wrong!r}"
+        os.chdir(before)
+        out.seek(0)
+        err.seek(0)
+        return Ended(status, out.read(), err.read().decode())
+
+
+@contextlib.contextmanager
+def streams(out, err):
+    """Standard output and error go into these files for a while, and standard input is empty."""
+    sys.stdout.flush()
+    sys.stderr.flush()
+    kept = [os.dup(number) for number in range(3)]
+    with open(os.devnull) as nothing:
+        for number, file in enumerate((nothing, out, err)):
+            os.dup2(file.fileno(), number)
+    try:
+        yield
+    finally:
+        sys.stdout.flush()
+        sys.stderr.flush()
+        for number, file in enumerate(kept):
+            os.dup2(file, number)
+            os.close(file)
 
 
 def folder_with(files):
@@ -66,8 +90,10 @@ def inside(folder):
 
 
 def ready():
-    """Builds the program where it has to be, once; calls in this process do not ask again."""
-    from command import programs
+    """Builds the program where it has to be, once; calls in this process do not ask again, and make the words of the command line once."""
+    from command import main, programs
 
     programs.built()
     programs.built = lambda: None
+    words = main.parser()
+    main.parser = lambda: words
