@@ -60,17 +60,22 @@ def of_bytes(path, raw, names=None, log=True):
 
 
 def held(path, tasks, events, raw, text, named):
-    """The given, once the listing has a line for each task and each event of it."""
+    """The given, once the listing has a line for each task and each event of it, and stops where they end, if bytes are left."""
     parsed = listing.parse(text)
     if len(parsed.first) != len(tasks) or len(parsed.answers) != len(events):
         found = f"{counted(len(parsed.first), 'task')} and {counted(len(parsed.answers), 'event')}"
         raise Wrong(f"brumerola: the listing has {found}, and the file {len(tasks)} and {len(events)}; this is a fault of the command")
+    ends = records.EVENT_SIZE * len(events)
+    rest = len(raw) - records.events_from(raw) - ends
+    if (parsed.stop and parsed.stop.offset) != (ends if rest else None):
+        found = f"stops at {parsed.stop.offset}" if parsed.stop else "does not stop"
+        raise Wrong(f"brumerola: the listing {found}, and the events end at {ends} with {counted(rest, 'byte')} left; this is a fault of the command")
     return Given(path, tasks, events, raw, parsed, named)
 
 
 def names_from(path):
     """The file and the tasks of the text that gives the names, if one is given."""
-    return path and (files.name_of(path), form.Reader(files.name_of(path)).read(files.read(path))[0])
+    return None if path is None else (files.name_of(path), form.Reader(files.name_of(path)).read(files.read(path))[0])
 
 
 def named(tasks, names, file):
@@ -85,7 +90,7 @@ def given(path, names=None, log=True):
     """The table and log of a text or byte file. With `log` false the events are left out."""
     raw = files.read(path)
     if not is_bytes(raw):
-        if names:
+        if names is not None:
             raise Wrong(f"{files.name_of(path)}: this is text and has names; --names is for a file of bytes")
         return of_text(path, raw, log)
     return of_bytes(path, raw, names_from(names), log)

@@ -79,6 +79,8 @@ def parse(text):
     answers = lines.while_made(lambda line, place: answer_of(line, place + 1))
     stop = lines.take(lambda line: STOP.fullmatch(line))
     last = lines.while_made(placed(LAST, lambda *numbers: Last(*map(int, numbers))))
+    if not lines.rest:
+        raise Wrong("brumerola: the listing ends within a line, so something of it is lost; run it again")
     if lines.rest != [""] or len(first) != len(last) or not first:
         raise Wrong(f"brumerola: the listing has a line that this command does not know, {shown(lines.rest[-1])}; build both from the same sources")
     return Listing(text, first, answers, Stop(*map(int, stop.groups())) if stop else None, last)

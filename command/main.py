@@ -24,7 +24,7 @@ def list_file(asked):
         found = given(asked.file, asked.names)
         files.say(data.told(data.listing(found)) if asked.json else "".join(line + "\n" for line in lines.listing(found)))
         return 0
-    if asked.names:
+    if asked.names is not None:
         raise Wrong("brumerola list: --plain shows no names, so leave --names out")
     raw = files.read(asked.file)
     files.say(programs.listing(raw if is_bytes(raw) else records.input_bytes(*form.Reader(files.name_of(asked.file)).read(raw))))
@@ -47,7 +47,7 @@ def read_back(again, values, first):
 
 
 def to_text(asked):
-    if asked.output:
+    if asked.output is not None:
         files.ready(asked.output, asked.file)
     raw = files.read(asked.file)
     if not is_bytes(raw):
@@ -64,9 +64,11 @@ def to_text(asked):
 
 
 def draw(asked):
-    if asked.json == bool(asked.output):
+    if asked.json == (asked.output is not None):
         raise Wrong("brumerola timeline: give the picture's name with -o, such as -o line.svg, or --json")
-    if asked.output:
+    if asked.json and (asked.start, asked.end) != (None, None):
+        raise Wrong("brumerola timeline: --json tells of the whole log, so leave --from and --to out")
+    if asked.output is not None:
         files.ready(asked.output, asked.file)
     history = History(given(asked.file, asked.names))
     if asked.json:

@@ -1,5 +1,5 @@
 """Elements of a picture as text."""
-from xml.sax.saxutils import escape, quoteattr
+import html
 
 from .wrong import printable
 
@@ -12,7 +12,7 @@ def number(value):
 def element(name, content=None, **attributes):
     """An element; in attributes `_` stands for `-`, and `cls` for class. Content is elements."""
     words = "".join(
-        f" {'class' if key == 'cls' else key.replace('_', '-')}={quoteattr(number(value) if isinstance(value, (int, float)) else value)}"
+        f' {"class" if key == "cls" else key.replace("_", "-")}="{html.escape(number(value) if isinstance(value, (int, float)) else value)}"'
         for key, value in attributes.items()
         if value is not None
     )
@@ -20,7 +20,7 @@ def element(name, content=None, **attributes):
 
 
 def text(x, y, words, cls=None, anchor=None):
-    return element("text", escape(printable(words)), x=x, y=y, cls=cls, text_anchor=anchor)
+    return element("text", html.escape(printable(words), quote=False), x=x, y=y, cls=cls, text_anchor=anchor)
 
 
 def rect(x, y, width, height, cls):
@@ -37,7 +37,7 @@ def line(x1, y1, x2, y2, cls):
 
 def title(words):
     """What a browser shows where the pointer rests."""
-    return element("title", escape(printable(words)))
+    return element("title", html.escape(printable(words), quote=False))
 
 
 def group(parts, cls=None, place=None):

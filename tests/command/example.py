@@ -1,0 +1,83 @@
+"""Each command on the example, as a person runs it: from the text and from the bytes, from another folder and through a link, for people and as JSON."""
+import os
+from concurrent.futures import ThreadPoolExecutor
+
+import checks
+from parsed import of_json, of_list, of_text
+from there import COMMAND, EXAMPLE, ROOT, Ended, folder_with, hold, run
+
+PLAIN = (ROOT / "examples/line.out").read_bytes()
+BYTES = ROOT / "examples/line.bin"
+NAMED = [str(BYTES), "--names", str(EXAMPLE)]
+NAMES, TASKS, EVENTS = of_text(EXAMPLE.read_text())
+
+
+def printed(what, found):
+    """What was printed, once the command has ended well."""
+    hold(f"{what}: end", (found.status, found.err), (0, ""))
+    return found.out.decode()
+
+
+def lists(run_all):
+    texts = run_all([["list", "--plain", str(EXAMPLE)], ["list", "--plain", str(BYTES)], ["list", str(EXAMPLE)], ["list", *NAMED], ["list", str(BYTES)]])
+    plain, from_bytes, shown, named, bare = [printed(f"list {place}", found) for place, found in enumerate(texts)]
+    hold("the plain listing of the text", plain.encode(), PLAIN)
+    hold("the plain listing of the bytes", from_bytes.encode(), PLAIN)
+    hold("the listing with names taken away", of_list(shown, NAMES, EVENTS, TASKS), PLAIN.decode())
+    hold("the listing of the bytes with names", named, shown)
+    hold("the listing of the bytes without names", of_list(bare, None, [event.replace(name, f"task{at}") for at, name, event in with_names()], TASKS), PLAIN.decode())
+
+
+def with_names():
+    """Each event of the text with the position and name that stand in it."""
+    for event in EVENTS:
+        name = event.split()[1]
+        yield (NAMES.index(name), name, event) if name in NAMES else (0, "no name", event)
+
+
+def screens(run_all):
+    texts = run_all([["list", "--json", str(EXAMPLE)], ["timeline", "--json", str(EXAMPLE)], ["check", "--json", str(EXAMPLE)], ["check", str(BYTES)]])
+    listed, drawn, checked, from_bytes = [printed(f"JSON {place}", found) for place, found in enumerate(texts)]
+    hold("the listing as JSON", of_json(listed, NAMES, EVENTS, TASKS), PLAIN.decode())
+    hold("the timeline as JSON", of_json(drawn, NAMES, EVENTS, TASKS), PLAIN.decode())
+    checks.example(checked, from_bytes, NAMES, TASKS, PLAIN.decode())
+
+
+def there_and_back(run_all, folder):
+    made = [["bytes", str(EXAMPLE), "-o", "a.bin"], ["text", *NAMED, "-o", "a.txt"], ["text", str(BYTES)], ["timeline", *NAMED, "-o", "a.svg"]]
+    outs = [printed(" ".join(args[:1]), found) for args, found in zip(made, run_all(made))]
+    hold("the bytes of the text", open(f"{folder}/a.bin", "rb").read(), BYTES.read_bytes())
+    hold("the text of the bytes", of_text(open(f"{folder}/a.txt").read()), (NAMES, TASKS, EVENTS))
+    hold("the text of the bytes without names", of_text(outs[2])[1], TASKS)
+    hold("the text of the bytes without names", of_text(outs[2])[0], [f"task{place}" for place in range(10)])
+    printed("bytes again", run(["bytes", "a.txt", "-o", "b.bin"], folder))
+    hold("the bytes of the text of the bytes", open(f"{folder}/b.bin", "rb").read(), BYTES.read_bytes())
+    hold("nothing else is made", sorted(os.listdir(folder)), ["a.bin", "a.svg", "a.txt", "b.bin", "link"])
+
+
+def elsewhere(folder):
+    """At the top with the names of the README, and through a link from another folder."""
+    with folder_with({}) as other:
+        hold("the picture that is stored", (*run(["timeline", "examples/line.txt", "-o", f"{other}/line.svg"], ROOT),), (0, b"", ""))
+        hold("the picture that is stored", open(f"{other}/line.svg").read(), (ROOT / "examples/line.svg").read_text())
+        hold("through a link", run(["list", "--plain", str(EXAMPLE)], other, command=f"{folder}/link"), Ended(0, PLAIN, ""))
+
+
+def helps(run_all):
+    commands = [[], ["list"], ["check"], ["timeline"], ["bytes"], ["text"]]
+    for args, found in zip(commands, run_all([[*args, "--help"] for args in commands])):
+        shown = found.out.decode().split()
+        hold(f"help of {args}", (found.status, shown[:2 + len(args)], found.err), (0, ["usage:", "brumerola", *args], ""))
+
+
+def look():
+    with folder_with({}) as folder, ThreadPoolExecutor(os.cpu_count()) as pool:
+        os.symlink(COMMAND, f"{folder}/link")
+        run_all = lambda many: list(pool.map(lambda args: run(args, folder), many))
+        lists(run_all)
+        screens(run_all)
+        there_and_back(run_all, folder)
+        elsewhere(folder)
+        helps(run_all)
+    count = checks.tables()
+    return f"22 runs on the example, {count} tables checked"

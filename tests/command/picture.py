@@ -1,0 +1,166 @@
+"""The timeline's picture, read back: it shows the jobs, the choice and the refusals of the rules, at one place for one time, and its counts are the listing's."""
+import random
+from collections import Counter
+
+import reasons
+from follow import TICK, followed, packed
+from made import busy_line, table_and_log
+from page import Page
+from scale import Scale
+from there import EXAMPLE, ROOT, call, folder_with, hold
+
+SIGNS = {"met": "met", "cross": "missed"}
+NEAR = 0.11  # places have one digit behind the point
+
+
+def name_of(place, names):
+    return names[place] if names else f"task{place}"
+
+
+def told(job, names):
+    """What a browser shows of a job."""
+    ended = f"met at {job.closed}" if job.state == "met" else job.state
+    return f"{name_of(job.place, names)} {job.number}: class {job.cls}, released at {job.release}, due at {job.deadline}, {ended}"
+
+
+def counts(what, page, line):
+    """Ticks and crosses of each row, and the table below, are the listing's last lines."""
+    drawn = Counter((SIGNS[sign.kind], sign.row) for strip in page.strips for sign in strip.signs if sign.kind in SIGNS)
+    hold(f"{what}: signs by row", drawn, Counter((job.state, job.place) for job in line.jobs() if job.state != "open"))
+    for cells, task in zip(page.table(), line.tasks):
+        words = task.last_line().split()
+        wanted = [words[3], words[5], words[7], f"{words[9]} of {task.K}", str(task.m), words[11] if task.broken else "-"]
+        hold(f"{what}: the table's row {task.place}", cells[1:], wanted)
+    hold(f"{what}: rows of the table", len(page.table()), len(line.tasks))
+
+
+def jobs(what, page, line, names, now):
+    """Each job has its release, its deadline and its bars in its row, at their times."""
+    wanted = {told(job, names): job for job in line.jobs()}
+    seen = Counter()
+    for strip in page.strips:
+        scale = Scale(strip)
+        for group in strip.groups:
+            job = wanted.get(group.title.split(";")[0])
+            if job is None:
+                hold(f"{what}: a job that is drawn", group.title, "none of this kind")
+                continue
+            for sign in group.signs:
+                scale.note(job.release if sign.kind == "up" else job.deadline, sign.x, sign.kind)
+                seen[job, sign.kind] += 1
+            rows = {part.row for part in group.signs + group.bars}
+            hold(f"{what}: rows of {group.title}", rows, {job.place})
+            bars(scale, group, job, now)
+        ends(scale, strip, line)
+        hold(f"{what}: places and times", scale.wrong(), [])
+    hold(f"{what}: releases and deadlines", seen, Counter((job, kind) for job in line.jobs() for kind in ("up", "down")))
+
+
+def bars(scale, group, job, now):
+    """The bars of a group: open up to the deadline, past it, or the choice."""
+    until = now if job.state == "open" else job.closed
+    chosen = group.title.partition("; the choice from ")[2].split(" to ")
+    for bar in group.bars:
+        if bar.kind == "wait":
+            scale.note_bar(job.release, min(until, job.deadline), bar)
+        elif bar.kind == "over":
+            scale.note_bar(job.deadline, until, bar)
+        else:
+            scale.note_bar(int(chosen[0]), int(chosen[1]), bar)
+
+
+def ends(scale, strip, line):
+    """Signs of met and missed jobs stand at their times, one for each."""
+    for kind, state in SIGNS.items():
+        for row, task in enumerate(line.tasks):
+            times = sorted(job.closed if kind == "met" else job.deadline for job in task.jobs if job.state == state)
+            scale.note_all(times, sorted(sign.x for sign in strip.signs if (sign.kind, sign.row) == (kind, row)), kind)
+    ticks = sorted(event[3] for event, answer in zip(line.events, line.answers) if event[0] == TICK and "refused" not in answer)
+    scale.note_all(ticks, sorted(sign.x for sign in strip.signs if sign.kind == "tick"), "tick")
+
+
+def choice(what, page, line, names, now):
+    """At every tick the bar that is drawn is the job that the rules choose; where ticks are many, at every tick at which something changes."""
+    drawn = {}
+    for strip in page.strips:
+        for group in strip.groups:
+            job, _, span = group.title.partition("; the choice from ")
+            if span:
+                drawn[tuple(map(int, span.split(" to ")))] = job, group.bars[0].kind, group.digit
+    steps = {time for time, _ in line.choices} | {edge for span in drawn for edge in span} | {job.deadline for job in line.jobs()}
+    ticks = range(now) if now < 3000 else sorted(tick for tick in steps if tick < now)
+    spans, wanted, at = sorted(drawn), [], 0
+    found = follow_spans(ticks, spans, drawn)
+    for tick in ticks:
+        while at + 1 < len(line.choices) and line.choices[at + 1][0] <= tick:
+            at += 1
+        job = line.choices[at][1]
+        wanted.append((tick, job and told(job, names), job and ("late" if tick >= job.deadline else f"c{min(job.cls, 3)}")))
+    hold(f"{what}: the choice", next((pair for pair in zip(found, wanted) if pair[0] != pair[1]), None), None)
+    for job, kind, digit in drawn.values():
+        hold(f"{what}: the digit of {job}", digit in (None, job.split("class ")[1].split(",")[0]), True)
+
+
+def follow_spans(ticks, spans, drawn):
+    """What is drawn as the choice at each tick."""
+    found, at = [], 0
+    for tick in ticks:
+        while at < len(spans) and spans[at][1] <= tick:
+            at += 1
+        inside = at < len(spans) and spans[at][0] <= tick
+        found.append((tick, *drawn[spans[at]][:2]) if inside else (tick, None, None))
+    return found
+
+
+def refused(what, page, line):
+    """A flag for each time of a refusal, and a diamond in the row of each refused event's task; returns the last time of the picture."""
+    clock, times, rows = 0, set(), set()
+    for event, answer in zip(line.events, line.answers):
+        if "refused" in answer:
+            at = clock if answer.endswith(" 9") else event[3]
+            times.add(at)
+            rows |= {(at, event[1])} if event[0] != TICK and event[1] < len(line.tasks) else set()
+        else:
+            clock = event[3]
+    drawn = Counter(sign.kind for strip in page.strips for sign in strip.signs)
+    hold(f"{what}: flags and diamonds", (drawn["flag"], drawn["diamond"]), (len(times), len(rows)))
+    return max([line.clock, *times])
+
+
+def held(what, raw, names, svg, why):
+    """One picture."""
+    page, line = Page(svg), followed(raw)
+    hold(f"{what}: outside the page", page.outside()[:3], [])
+    hold(f"{what}: rows", {tuple(strip.names) for strip in page.strips}, {tuple(f"{place} {name_of(place, names)}" for place in range(len(line.tasks)))})
+    now = refused(what, page, line)
+    counts(what, page, line)
+    jobs(what, page, line, names, now)
+    choice(what, page, line, names, now)
+    reasons.held(what, page, line, names, why)
+
+
+def cases():
+    """A name, bytes, and names of tasks."""
+    names = [words.split()[1] for words in EXAMPLE.read_text().splitlines() if words.startswith("task ")]
+    yield "the example", (ROOT / "examples/line.bin").read_bytes(), names
+    for path in sorted((ROOT / "tests/cases/listing").glob("*.in")):
+        raw = path.read_bytes()
+        if path.with_suffix(".out").read_text().startswith("task") and len(raw) < 10000:
+            yield f"tests/cases/listing/{path.name}", raw, None
+    yield "16 tasks", packed(*busy_line(1, 3000, 16, 0.1)), None
+    yield "5 tasks that are overloaded", packed(*busy_line(2, 400, 5, 0.6)), None
+    yield "3 tasks for some hundred ticks", packed(*busy_line(3, 60, 3, 0.4)), None
+    seed = random.Random(4)
+    for number in range(20):
+        yield f"random {number}", packed(*table_and_log(seed)), None
+
+
+def look():
+    count = 0
+    for what, raw, names in cases():
+        with folder_with({"in.bin": raw}) as folder:
+            args = ["in.bin", *(["--names", str(EXAMPLE)] if names else [])]
+            if hold(f"{what}: drawn", (*call(["timeline", *args, "-o", "out.svg"], folder),), (0, b"", "")):
+                held(what, raw, names, open(f"{folder}/out.svg", encoding="utf-8").read(), call(["timeline", *args, "--json"], folder).out)
+        count += 1
+    return f"{count} pictures"
