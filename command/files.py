@@ -1,7 +1,6 @@
 """Files that are read whole, and written whole or not at all; '-' is standard input or standard output."""
 import os
 import stat
-import sys
 
 from .wrong import Wrong, of_system, printable
 
