@@ -3,6 +3,7 @@ import os
 
 from bad_bytes import ONE, event
 from bad_texts import FULL, SIXTEEN, TASK
+from page import Page
 from there import call, folder_with, hold, run
 
 PLAIN = TASK + "release a at 0\ncomplete a 1 at 1\n"
@@ -67,6 +68,13 @@ def files():
             hold(f"{name}: a link stays one", os.path.islink(f"{folder}/link"), True)
 
 
+def marked_names():
+    """A file's name with letters that a picture has to spell out."""
+    with folder_with({"a&b <c> \"d\".txt": PLAIN}) as folder:
+        hold("letters of a file's name", (*call(["timeline", "a&b <c> \"d\".txt", "-o", "out.svg"], folder),), (0, b"", ""))
+        hold("letters of a file's name", Page(open(f"{folder}/out.svg").read()).words[0], "a&b <c> \"d\".txt")
+
+
 def by_standard_input():
     with folder_with({}) as folder:
         listed = b"task 0 w 0 h 1 bound 1\nevent 1 run 0 class 0\nevent 2 idle\ntask 0 met 1 missed 0 open 0 window 0 broken 0\n"
@@ -78,5 +86,6 @@ def by_standard_input():
 def look():
     texts()
     files()
+    marked_names()
     by_standard_input()
-    return f"{len(TEXTS) + len(FILES) + 3} right ones that look odd"
+    return f"{len(TEXTS) + len(FILES) + 4} right ones that look odd"

@@ -1,5 +1,6 @@
 """The timeline's picture, read back: it shows the jobs, the choice and the refusals of the rules, at one place for one time, and its counts are the listing's."""
 import random
+import re
 from collections import Counter
 
 import reasons
@@ -37,6 +38,17 @@ def counts(what, page, line, part):
         wanted = [words[3], words[5], words[7], f"{words[9]} of {task.K}", str(task.m), words[11] if task.broken else "-"]
         hold(f"{what}: the table's row {task.place}", cells[1:], wanted)
     hold(f"{what}: rows of the table", len(page.table()), len(line.tasks))
+
+
+def summary(what, page, line):
+    """What stands above the legend: the counts of all, and which windows were broken."""
+    states, count = Counter(job.state for job in line.jobs()), len(line.events)
+    events = f"{count:,} event{'s' * (count != 1)}, {sum('refused' in answer for answer in line.answers)} refused."
+    wanted = f"{events} {states['met']:,} job{'s' * (states['met'] != 1)} met, {states['missed']} missed, {states['open']} open."
+    hold(f"{what}: summary", page.words[:2], ["in.bin", wanted])
+    head = " ".join(page.words[2 : page.words.index("At the end")])
+    broken = [f"at job {task.broken} (more than {task.m} of {task.K})" for task in line.tasks if task.broken]
+    hold(f"{what}: broken windows", (re.findall(r"at job \d+ \(more than \d+ of \d+\)", head), "No window was broken." in head), (broken, not broken))
 
 
 def jobs(what, page, line, names, now, part):
@@ -143,6 +155,7 @@ def held(what, raw, names, svg, why, part):
     hold(f"{what}: outside the page", page.outside()[:3], [])
     hold(f"{what}: rows", {tuple(strip.names) for strip in page.strips}, {tuple(f"{place} {name_of(place, names)}" for place in range(len(line.tasks)))})
     now = refused(what, page, line, part)
+    summary(what, page, line)
     counts(what, page, line, part)
     jobs(what, page, line, names, now, part)
     choice(what, page, line, names, now, part)
