@@ -49,7 +49,7 @@ def why(given, place):
         rest = sum(time for _, _, time in others[len(named) :])
         sums.append(f"{rest:,} for {counted(len(others) - len(named), 'other task')}")
     whole = f"{task.C:,} for its own job, {listed(sums)}"
-    return f"{task.name} fails: within its D of {task.D:,} ticks, it and the tasks above it can ask for {asked:,}: {whole}."
+    return f"{task.name} has no bound: within its D of {task.D:,} ticks, it and the tasks above it can ask for {asked:,}: {whole}."
 
 
 def share(task):
@@ -58,11 +58,12 @@ def share(task):
 
 
 def headline(given):
+    """The answer. Without all bounds the guarantee says nothing of a table; it does not say that it fails."""
     bad = failing(given)
     if not bad:
         return f"{given.file}: the guarantee holds: every task has a bound."
     names = listed(given.tasks[place].name for place in bad)
-    return f"{given.file}: the guarantee does not hold: {names} {'has' if len(bad) == 1 else 'have'} no bound."
+    return f"{given.file}: there is no guarantee for this table: {names} {'has' if len(bad) == 1 else 'have'} no bound."
 
 
 def rows(given):
@@ -87,6 +88,6 @@ def told(given):
     for place in failing(given):
         yield why(given, place)
     if failing(given):
-        yield "To mend it, make a D larger, a C smaller, or a T above larger, and check again."
+        yield "To mend it, give it a larger D or a smaller C, or the tasks above it a larger T or a smaller C, and check again."
     else:
         yield "It holds while no job runs past its C: docs/RULES.md, \"Chosen time\", has the premise in full."

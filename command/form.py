@@ -6,7 +6,7 @@ from .records import COMPLETION, EVENT_SIZE, FIELDS, KINDS, MOST_BYTES, MOST_TAS
 from .wrong import Wrong, counted, shown
 
 LONGEST_NAME = 24
-NAME = re.compile(r"[^\W\d_][\w.-]*")
+SPACE = re.compile("[ \t]+")
 SHAPES = {
     "task": "task NAME C N D N T N m N K N",
     "tick": "tick at TIME",
@@ -15,11 +15,22 @@ SHAPES = {
 }
 
 
-class Reader:
-    """Reads the lines of one text from the top, and keeps its tasks and events."""
+def is_name(word):
+    """A letter, then letters with their marks, digits, '_', '-' and '.', of every language."""
+    kinds = [unicodedata.category(c) for c in word]
+    return bool(kinds) and kinds[0][0] == "L" and all(c in "_-." or kind[0] in "LM" or kind == "Nd" for c, kind in zip(word, kinds))
 
-    def __init__(self, file):
-        self.file, self.line = file, 0
+
+def stray(line):
+    """The first character that would end or hide a part of the line for some and not for others, or None."""
+    return next((c for c in line if c != "\t" and unicodedata.category(c) in ("Cc", "Zl", "Zp")), None)
+
+
+class Reader:
+    """Reads the lines of one text from the top, and keeps its tasks and events. With `log` false lines of events are passed over."""
+
+    def __init__(self, file, log=True):
+        self.file, self.log, self.line, self.comment = file, log, 0, False
         self.tasks, self.events, self.places = [], [], {}
 
     def wrong(self, words):
@@ -27,14 +38,14 @@ class Reader:
 
     def read(self, raw):
         for self.line, line in enumerate(self.lines(raw), 1):
-            words = line.split("#", 1)[0].split()
+            words = self.words(line)
             if not words:
                 continue
             if words[0] not in SHAPES:
                 raise self.wrong(f"no line begins with {shown(words[0])}; begin it with task, release, complete, tick or #")
             if words[0] == "task":
                 self.task(words)
-            else:
+            elif self.log:
                 self.event(words)
         if not self.tasks:
             raise Wrong(f"{self.file}: there is no task in it; a line such as '{SHAPES['task']}' is one, with a number for each N")
@@ -43,15 +54,21 @@ class Reader:
     def lines(self, raw):
         """The text's lines. A byte that is no text is told with its line."""
         if raw[:2] in (b"\xff\xfe", b"\xfe\xff"):
-            raise Wrong(f"{self.file}: this is UTF-16 text; save it as UTF-8")
-        if b"\0" in raw:
-            self.line = raw[: raw.index(0)].count(b"\n") + 1
-            raise self.wrong("a zero byte stands here, so this is no text; a file of bytes is turned into text by 'brumerola text'")
+            raise Wrong(f"{self.file}: this is UTF-16 or UTF-32 text; save it as UTF-8")
         try:
             return raw.decode("utf-8-sig").split("\n")
         except UnicodeDecodeError as wrong:
             self.line = raw[: wrong.start].count(b"\n") + 1
             raise self.wrong(f"byte {raw[wrong.start]:#04x} is no UTF-8 text; save the file as UTF-8") from None
+
+    def words(self, line):
+        """The words of a line before its comment."""
+        line = line[:-1] if line.endswith("\r") else line
+        if stray(line):
+            raise self.wrong(f"a character that is no text, {shown(stray(line))}, stands here; take it out, and save the file as UTF-8 text")
+        line, mark, _ = line.partition("#")
+        self.comment = bool(mark)
+        return [word for word in SPACE.split(line) if word]
 
     def number(self, word, what, size):
         """A number that fits `size` bytes."""
@@ -67,7 +84,8 @@ class Reader:
         shape = SHAPES[words[0]]
         for place, right in enumerate(rest, 1):
             if place == len(words):
-                raise self.wrong(f"the line ends after {shown(words[-1])}, and '{shape}' is needed")
+                ends = "the comment begins" if self.comment else "the line ends"
+                raise self.wrong(f"{ends} after {shown(words[-1])}, and '{shape}' is needed")
             if right is not None and words[place] != right:
                 raise self.wrong(f"{shown(words[place])} stands where '{right}' is needed, as in '{shape}'")
         if len(words) > len(rest) + 1:
@@ -86,7 +104,7 @@ class Reader:
 
     def new_name(self, word):
         name = unicodedata.normalize("NFC", word)
-        if not NAME.fullmatch(name):
+        if not is_name(name):
             raise self.wrong(f"{shown(word)} is no name; a name is a letter, then letters, digits, '_', '-' and '.'")
         if len(name) > LONGEST_NAME:
             raise self.wrong(f"the name {shown(name)} has {len(name)} characters, and at most {LONGEST_NAME} are allowed")
@@ -111,8 +129,8 @@ class Reader:
             return self.number(word[1:], "the position behind @", 1)
         name = unicodedata.normalize("NFC", word)
         if name not in self.places:
-            known = ", ".join(self.places) or "none"
-            raise self.wrong(f"there is no task {shown(word)} above; the tasks are {known}")
+            known = f"the tasks are {', '.join(self.places)}" if self.places else "tasks stand above the events"
+            raise self.wrong(f"there is no task {shown(word)} above; {known}")
         return self.places[name]
 
 

@@ -11,19 +11,25 @@ class Given:
         self.tasks, self.events, self.raw, self.listing = tasks, events, raw, parsed
         self.named = named  # whether the tasks have names of their own, and not only those that their positions give
         self.names = [task.name for task in tasks]
+        self.clocks = list(clocks(events, parsed.answers))
+
+
+def clocks(events, answers):
+    """The clock that each event finds."""
+    clock = 0
+    for event, answer in zip(events, answers):
+        yield clock
+        clock = clock if answer.refused else event.time
 
 
 def is_bytes(raw):
-    """Whether a file is of bytes: it begins as one, or has zero bytes, as every lawful table has, and a text has none."""
-    begins = raw[1:3] == b"TK" and 1 <= raw[0] <= records.MOST_TASKS
-    return begins or b"\0" in raw and raw[:2] not in (b"\xff\xfe", b"\xfe\xff")
+    """Whether a file is of bytes: it begins as a table does, or has zero bytes behind a small first byte that begins no text."""
+    return raw[1:3] == b"TK" or b"\0" in raw and raw[0] <= records.MOST_TASKS and raw[:1] not in (b"\t", b"\n", b"\r")
 
 
 def of_text(path, raw, log=True):
     """The given of a text. The table's rules are told by the program's refusal, with the task's line and name."""
-    tasks, events = form.Reader(files.name_of(path)).read(raw)
-    if not log:
-        events = []
+    tasks, events = form.Reader(files.name_of(path), log).read(raw)
     made = records.input_bytes(tasks, events)
     text = programs.listing(made)
     refused = listing.refusal(text)
@@ -39,8 +45,7 @@ def of_bytes(path, raw, names=None, log=True):
     file = files.name_of(path)
     if len(raw) > records.MOST_BYTES and log:
         raise Wrong(f"{file}: the log is too long: the file has {len(raw):,} bytes, and {records.MOST_BYTES:,} are listed; cut the log")
-    if not log and raw:
-        raw = raw[: records.events_from(raw)]
+    whole, raw = raw, raw if log or not raw else raw[: records.events_from(raw)]
     text = programs.listing(raw)
     refused = listing.refusal(text)
     if refused and refused[0] in (3, 4):
@@ -49,6 +54,8 @@ def of_bytes(path, raw, names=None, log=True):
         raise Wrong(f"{file}: table refused {number} at {place}: {refusals.of_task(number, task)}")
     if refused:
         raise Wrong(f"{file}: table refused {refused[0]} at {refused[1]}: {refusals.of_table(*refused, raw)}")
+    if not log:
+        follows(file, whole)
     tasks = records.tasks_of(raw)
     if names:
         tasks = named(tasks, names, file)
@@ -57,6 +64,14 @@ def of_bytes(path, raw, names=None, log=True):
     if parsed.stop:
         count = parsed.stop.offset // records.EVENT_SIZE
     return held(path, tasks, records.events_of(raw, count), raw, text, bool(names))
+
+
+def follows(file, raw):
+    """What follows the table has to begin as a log does: else the count of tasks is likely wrong, and the table another."""
+    at = records.events_from(raw)
+    if not b"EV".startswith(raw[at : at + 2]):
+        found = f"the first byte says {counted(raw[0], 'task')}, and byte {at}, behind them, begins no event record (45 56)"
+        raise Wrong(f"{file}: {found}; look whether the count of tasks is right")
 
 
 def held(path, tasks, events, raw, text, named):
@@ -75,7 +90,7 @@ def held(path, tasks, events, raw, text, named):
 
 def names_from(path):
     """The file and the tasks of the text that gives the names, if one is given."""
-    return None if path is None else (files.name_of(path), form.Reader(files.name_of(path)).read(files.read(path))[0])
+    return None if path is None else (files.name_of(path), form.Reader(files.name_of(path), log=False).read(files.read(path))[0])
 
 
 def named(tasks, names, file):

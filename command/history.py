@@ -12,10 +12,10 @@ Stretch = namedtuple("Stretch", "start end job")
 
 
 class Job:
-    """A job of a task. `met` is None while it is open; `closed` and `by` are the time and the number of the event that closed it."""
+    """A job of a task. `since` is the number of its release event, `by` that of the event that closed it; `met` is None while it is open."""
 
-    def __init__(self, task, number, release, deadline, cls):
-        self.task, self.number, self.release, self.deadline, self.cls = task, number, release, deadline, cls
+    def __init__(self, task, number, release, deadline, cls, since):
+        self.task, self.number, self.release, self.deadline, self.cls, self.since = task, number, release, deadline, cls, since
         self.met = self.closed = self.by = None
 
 
@@ -35,7 +35,7 @@ class Course:
     def release(self, place, time, by):
         if self.open:
             self.close(False, time, by)
-        self.jobs.append(Job(place, len(self.jobs) + 1, time, time + self.task.D, max(self.level, 0)))
+        self.jobs.append(Job(place, len(self.jobs) + 1, time, time + self.task.D, max(self.level, 0), by))
 
     def close(self, met, time, by):
         job = self.open
@@ -70,7 +70,14 @@ class History:
         for number, (event, answer) in enumerate(zip(given.events, given.listing.answers), 1):
             if not answer.refused:
                 self.take(number, event, answer)
+        # the last time of the log: of an accepted event, or of one that was refused for another reason than its time
+        late = (event.time for event, answer in zip(given.events, given.listing.answers) if answer.refused not in (0, 9))
+        self.now = max([self.clock, *late])
         self.hold_last()
+
+    def until_now(self):
+        """The stretches up to the end of the log: the last choice stands."""
+        return [*self.stretches, Stretch(self.clock, self.now, self.choice)]
 
     def take(self, number, event, answer):
         """One accepted event: late jobs close, then it releases or completes; the choice is the one that was printed."""
@@ -109,6 +116,10 @@ class History:
 
     def jobs(self):
         return [job for course in self.courses for job in course.jobs]
+
+    def missed(self):
+        """The missed jobs by deadline."""
+        return sorted((job for job in self.jobs() if job.met is False), key=lambda job: (job.deadline, job.task))
 
 
 def differs(words):

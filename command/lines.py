@@ -1,7 +1,8 @@
 """The listing for people: each line of the program's text with the task's name beside its position, and beside it what it is about."""
 from .form import event_text
-from .refusals import EVENT, STOP
 from .records import EVENT_SIZE, events_from
+from .refusals import STOP, of_event
+from .wrong import listed
 
 
 def columns(rows):
@@ -30,13 +31,26 @@ def first_lines(given, lines):
     return aligned([with_name(line, given) for line in lines])
 
 
-def event_lines(given, lines):
-    rows = []
-    for line, event, answer in zip(lines, given.events, given.listing.answers):
+def event_lines(history, lines):
+    """Beside each answer the event, why it was refused, and which jobs it closed as missed."""
+    given, rows, missed = history.given, [], closings(history)
+    for number, (line, event, answer, clock) in enumerate(zip(lines, given.events, given.listing.answers, given.clocks), 1):
         left = line if answer.run is None else with_name(line, given)
         right = event_text(event, given.names)
-        rows.append((left, f"{right}: {EVENT[answer.refused]}" if answer.refused else right))
+        if answer.refused:
+            right += f": {of_event(answer.refused, event, clock)}"
+        elif number in missed:
+            right += f"; missed: {listed(missed[number])}"
+        rows.append((left, right))
     return columns(rows)
+
+
+def closings(history):
+    """By the number of an event: the jobs that it closed as missed."""
+    found = {}
+    for job in history.missed():
+        found.setdefault(job.by, []).append(f"{history.given.names[job.task]} {job.number}")
+    return found
 
 
 def stopped(given):
@@ -48,17 +62,18 @@ def stopped(given):
 def last_lines(given, lines):
     rows = []
     for line, task, last in zip(aligned([with_name(line, given) for line in lines]), given.tasks, given.listing.last):
-        allowed = f"at most {task.m} of {task.K}" if task.m else "hard: none"
+        allowed = f"at most {task.m} of {task.K}" if task.m else "hard, no miss"
         rows.append((line, f"{allowed}: BROKEN at job {last.broken}" if last.broken else allowed))
     return columns(rows)
 
 
-def listing(given):
+def listing(history):
     """All lines, in the program's order."""
+    given = history.given
     lines = given.listing.text.splitlines()
     tasks, events = len(given.tasks), len(given.events)
     yield from first_lines(given, lines[:tasks])
-    yield from event_lines(given, lines[tasks : tasks + events])
+    yield from event_lines(history, lines[tasks : tasks + events])
     if given.listing.stop:
         yield f"{lines[tasks + events]}   {stopped(given)}"
     yield from last_lines(given, lines[-tasks:])

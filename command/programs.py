@@ -1,4 +1,5 @@
 """The proved listing program: built where it is not there or its sources have changed, and run."""
+import hashlib
 import os
 import pathlib
 import platform
@@ -17,12 +18,11 @@ WORD = "brumerola: proving and building the listing program; this takes 2 to 4 m
 
 
 def sources():
-    """What the program is built from, by name, size and time: a change of any of it is seen."""
-    lines = []
-    for path in [ROOT / "crates.txt", *sorted(ROOT.glob("crates/*/*/**/*"))]:
-        about = path.stat()
-        lines.append(f"{path.relative_to(ROOT)} {about.st_size} {about.st_mtime_ns}")
-    return "\n".join(lines)
+    """What the program is built from, as one number: a change of any of it is seen, and a copy is the same."""
+    found = hashlib.sha256()
+    for path in [ROOT / "crates.txt", *sorted(ROOT.glob("crates/*/s*/**/*.*")), *sorted(ROOT.glob("crates/*/proofs/**/*.*"))]:
+        found.update(f"{path.relative_to(ROOT)}\0".encode() + path.read_bytes())
+    return found.hexdigest()
 
 
 def toolchain():

@@ -1,9 +1,8 @@
 """The refusal numbers in words (Rules, "Refusal numbers")."""
 from .wrong import counted
 
-LIMIT = "1,000,000,000,000"
+LIMIT = 10**12
 EVENT = {
-    9: f"the time is before the clock, or past {LIMIT}",
     10: "the table has no task at this position",
     11: "less than T after the task's last release",
     12: "the task has no open job of this number",
@@ -14,6 +13,13 @@ STOP = {
     7: "the kind is 3 or more",
     8: "a tick or release has a number in a field that has to be 0",
 }
+
+
+def of_event(number, event, clock):
+    """Why an event was refused, which found this clock."""
+    if number == 9:
+        return f"its time is past {LIMIT:,}" if event.time > LIMIT else f"its time is before the clock, {clock}"
+    return EVENT[number]
 
 
 def of_table(number, place, raw):

@@ -1,17 +1,15 @@
 """One strip of the picture: a row for each task over a part of the time, with the axis below, and then the sentences for what went wrong in it."""
-import textwrap
 from itertools import groupby
 
 from . import look, svg
 from .form import event_text
 from .records import TICK
-from .refusals import EVENT
 from .scene import within
 
 WIDTH, RIGHT = 1120, 20  # of the page, and its right margin
 TOP, FOOT, LINE = 20, 34, 15  # heights: the row of refused events, the axis, a sentence
 MOST_NOTES = 12  # sentences of each kind under a strip
-COLUMNS = 188  # characters of a sentence's line
+ROOM = WIDTH - 40  # of a sentence's line
 
 
 class Strip:
@@ -21,10 +19,11 @@ class Strip:
         self.scene, self.reasons, self.left = scene, reasons, left
         self.first, self.last, self.final = first, last, final
         self.right = left + last - first
+        self.free = {}  # by row: from where on a number can be written
         self.names, self.count = scene.given.names, len(scene.given.tasks)
         self.body = TOP + self.count * look.ROW
         self.jobs, self.parts = within(scene.job_spans, first, last), within(scene.part_spans, first, last)
-        self.notes = [line for note in self.sentences() for line in textwrap.wrap(note, COLUMNS, subsequent_indent="    ")]
+        self.notes = [line for note in self.sentences() for line in look.wrapped(note, ROOM)]
         self.height = self.body + FOOT + LINE * len(self.notes) + 10
 
     def x(self, time):
@@ -111,18 +110,29 @@ class Strip:
         return svg.group(drawn)
 
     def ends(self, job):
-        """Met and missed, in front of all else."""
+        """Met, missed and its window broken, and where the job had used up its C, in front of all else."""
         y = self.y(job.task)
+        used = self.reasons.used_up(job)
+        notch = "" if used is None else self.signs(used, lambda x: look.used(x, y))
         if job.met is None:
-            return ""
+            return notch
         if job.met:
-            return self.signs(job.closed, lambda x: look.tick_off(x, y))
-        words = f"{job.number} broken" if job.number == self.scene.given.listing.last[job.task].broken else str(job.number)
-        return self.signs(job.deadline, lambda x: look.cross(x, y) + self.beside(x, y + 21, words))
+            return notch + self.signs(job.closed, lambda x: look.tick_off(x, y))
+        broke = job.number == self.scene.given.listing.last[job.task].broken
+        return notch + self.signs(job.deadline, lambda x: look.cross(x, y) + (look.ring(x, y) if broke else "") + self.numbered(job, x, y, broke))
+
+    def numbered(self, job, x, y, broke):
+        """The number of a missed job behind its sign, unless it would cover that of the one before; where the window broke it is always there."""
+        if x < self.free.get(job.task, 0) and not broke:
+            return ""
+        self.free[job.task] = x + 12 + 8 * len(str(job.number))
+        return self.beside(x + (4 if broke else 0), y + 20, str(job.number))
 
     def beside(self, x, y, words):
-        """Words behind a sign, or before it near the right edge."""
-        return svg.text(x + 8, y, words, "bad") if x + 12 + 8 * len(words) < WIDTH else svg.text(x - 8, y, words, "bad", "end")
+        """Words on a plate behind a sign, or before it near the right edge."""
+        room = look.wide(words, look.TEXT, True)
+        start = x + 7 if x + 10 + room < WIDTH else x - 9 - room
+        return svg.rect(start - 1, y - 10, room + 2, 13, "plate") + svg.text(start, y, words, "bad")
 
     def refused(self):
         """A flag and the numbers above the rows for each time, and a diamond in the row of an event's task."""
@@ -141,36 +151,38 @@ class Strip:
 
     def times(self):
         """The axis, the times written at it, accepted ticks, what a cut leaves out, and the end of the log."""
-        y = self.body
+        y, now = self.body, self.scene.now
         yield svg.line(self.left, y, self.right, y, "axis")
-        yield from self.written(((time, f"{time:,}") for time in self.scene.axis.written()), y + 17, 7.0, "axis")
-        yield from self.written(((start, f"{end - start:,} cut") for start, end in self.scene.axis.cuts), y + 29, 5.4, "small")
+        for time in self.scene.axis.written():
+            yield self.signs(time, lambda x: svg.line(x, y, x, y + 5, "axis"))
+        yield from self.written([(time, f"{time:,}") for time in self.scene.axis.written()], y + 17, look.TEXT, 0.5)
+        end = [(now, f"end of the log, {now:,}")]
+        yield from self.written(end + [(start, f"{stop - start:,} cut") for start, stop in self.scene.axis.cuts], y + 29, 9, 0)
         for time in self.scene.ticks:
             yield self.signs(time, lambda x: look.ticked(x, y))
-        yield self.signs(self.scene.now, lambda x: svg.line(x, 2, x, y + 6, "end") + svg.text(x - 4, 10, "end of the log", "small", "end"))
+        yield self.signs(now, lambda x: svg.line(x, 2, x, y + 6, "end"))
 
-    def written(self, labels, y, letter, kind):
-        """Words at their times; those that would run into the one before, or out of the page, are moved or left out."""
-        free = 0.0
+    def written(self, labels, y, size, share):
+        """Words at their times; those that would run into one before are left out, and those that would leave the page are moved."""
+        taken = []
         for time, words in labels:
-            x, wide = self.x(time), letter * len(words)
+            x, room = self.x(time), look.wide(words, size)
             if x is None:
                 continue
-            if kind == "axis":
-                yield svg.line(x, self.body, x, self.body + 5, "axis")
-            start = min(x - wide / 2 if kind == "axis" else x + 3, WIDTH - wide - 2)
-            if start >= free:
-                yield svg.text(start + wide / 2, y, words, None if kind == "axis" else kind, "middle")
-                free = start + wide + 6
+            start = max(min(x - share * room + (0 if share else 3), WIDTH - room - 2), 2)
+            if all(start + room < other or start > end for other, end in taken):
+                taken.append((start, start + room + 4))
+                yield svg.text(start + room / 2, y, words, "small" if size < look.TEXT else None, "middle")
 
     def sentences(self):
-        """Why each missed job of the strip was missed, and what was refused in it."""
-        missed = sorted((job for job in self.jobs if job.met is False and self.x(job.deadline) is not None), key=lambda job: (job.deadline, job.task))
-        yield from (f"\u2717 {self.reasons.why(job)}" for job in missed[:MOST_NOTES])
-        if len(missed) > MOST_NOTES:
-            yield f"\u2717 and {len(missed) - MOST_NOTES} more missed jobs; 'brumerola timeline --json' tells why"
+        """Why each job of the strip that is past its deadline was missed, and what was refused in it."""
+        late = [job for job in self.jobs if job.met is False or self.reasons.overdue(job)]
+        late = sorted((job for job in late if self.x(self.scene.inside(job.deadline)) is not None), key=lambda job: (job.deadline, job.task))
+        yield from (f"\u2717 {self.reasons.why(job)}" for job in late[:MOST_NOTES])
+        if len(late) > MOST_NOTES:
+            yield f"\u2717 and {len(late) - MOST_NOTES} more missed jobs; 'brumerola timeline --json' tells why"
         refused = [refused for refused in self.scene.refused if self.x(refused.at) is not None]
         for one in refused[:MOST_NOTES]:
-            yield f"\u25bd event {one.number}, {event_text(one.event, self.names)}, refused {one.refusal}: {EVENT[one.refusal]}."
+            yield f"\u25bd event {one.number}, {event_text(one.event, self.names)}, refused {one.refusal}: {one.why}."
         if len(refused) > MOST_NOTES:
             yield f"\u25bd and {len(refused) - MOST_NOTES} more refused events; 'brumerola list' shows them"

@@ -1,20 +1,19 @@
 """The picture of a log as one page: what it is of, the legend, strips of time one below the other, and how each task ended."""
-import textwrap
-
 from . import look, svg
 from .refusals import STOP
 from .scene import Scene
-from .strip import COLUMNS, LINE, RIGHT, WIDTH, Strip
+from .strip import LINE, RIGHT, ROOM, WIDTH, Strip
 from .why import Reasons
 from .wrong import counted, listed
 
-WIDEST = 4  # a short log is drawn at most so many times as wide
+MOST_MISSED = 16  # named in the summary
+WIDEST = 6  # a short log is drawn at most so many times as wide
 EARLIEST = 0.7  # a strip is filled at least so far
 
 
 def left_edge(names):
     """Where rows begin: behind the longest name."""
-    return max(126, 34 + 8 * max(map(len, names)))
+    return max(126, 34 + max(look.wide(name, 12, True) for name in names))
 
 
 def strips_of(scene, reasons):
@@ -45,27 +44,34 @@ def ended(history):
     return list(zip(history.given.tasks, history.given.listing.last))
 
 
-def summary(history):
-    """What the log came to, as sentences and how they look: its events and jobs, where its reading stopped, and which windows were broken."""
-    jobs = history.jobs()
-    met, missed = sum(job.met is True for job in jobs), sum(job.met is False for job in jobs)
+def summary(history, scene):
+    """What the log came to, as sentences and whether each is bad news: its events and jobs, where its reading stopped, what was missed and broken."""
+    jobs, names = history.jobs(), history.given.names
+    met, missed = sum(job.met is True for job in jobs), history.missed()
     events = counted(len(history.given.events), "event")
     refused = len(history.given.events) - history.accepted
-    yield f"{events}, {refused} refused. {counted(met, 'job')} met, {missed} missed, {len(jobs) - met - missed} open.", None
+    part = f" Drawn: {scene.start:,} to {scene.end:,} of 0 to {scene.whole:,}." if scene.part else ""
+    yield f"{events}, {refused} refused. {counted(met, 'job')} met, {len(missed)} missed, {len(jobs) - met - len(missed)} open.{part}", False
     stop = history.given.listing.stop
     if stop:
-        yield f"The log was read up to byte {stop.offset} of its events and stopped there: {STOP[stop.refusal]} (refusal {stop.refusal}).", "bad"
+        yield f"The log was read up to byte {stop.offset} of its events and stopped there: {STOP[stop.refusal]} (refusal {stop.refusal}).", True
+    if missed:
+        first = [f"{names[job.task]} {job.number} at {job.deadline:,}" for job in missed[:MOST_MISSED]]
+        yield f"Missed: {', '.join(first)}{f' and {len(missed) - MOST_MISSED} more' if len(missed) > MOST_MISSED else ''}.", False
     broken = [f"{task.name} at job {last.broken} (more than {task.m} of {task.K})" for task, last in ended(history) if last.broken]
-    yield (f"Broken windows: {listed(broken)}.", "bad") if broken else ("No window was broken.", None)
+    yield (f"Broken windows: {listed(broken)}.", True) if broken else ("No window was broken.", False)
 
 
-def head(history):
+def head(history, scene):
     """The title, the summary and the legend, and the height that they take."""
-    lines = [(line, kind) for words, kind in summary(history) for line in textwrap.wrap(words, COLUMNS)]
-    page = [svg.text(10, 26, history.given.file, "head")]
-    page.extend(svg.text(10, 46 + LINE * place, line, kind) for place, (line, kind) in enumerate(lines))
+    lines = [(line, bad) for words, bad in summary(history, scene) for line in look.wrapped(words, ROOM, bad)]
+    name = history.given.file
+    while look.wide(name, 17, True) > ROOM:
+        name = ".." + name[12:]
+    page = [svg.text(10, 26, name, "head")]
+    page.extend(svg.text(10, 46 + LINE * place, line, "bad" if bad else None) for place, (line, bad) in enumerate(lines))
     bottom = 46 + LINE * len(lines)
-    return page + [svg.group(look.legend(10, bottom - 8), "legend")], bottom + 32
+    return page + [svg.group(look.legend(10, bottom - 8), "legend")], bottom + 56
 
 
 def table(history, y):
@@ -83,8 +89,8 @@ def table(history, y):
 
 def draw(history, start=None, end=None):
     """The whole picture, or the part of it from tick `start` to tick `end`."""
-    page, y = head(history)
     scene = Scene(history, start, end)
+    page, y = head(history, scene)
     for strip in strips_of(scene, Reasons(history)):
         page.append(svg.group(strip.drawn(), place=f"translate(0 {y})"))
         y += strip.height
