@@ -90,7 +90,12 @@ def held(path, tasks, events, raw, text, named):
 
 def names_from(path):
     """The file and the tasks of the text that gives the names, if one is given."""
-    return None if path is None else (files.name_of(path), form.Reader(files.name_of(path), log=False).read(files.read(path))[0])
+    if path is None:
+        return None
+    raw, file = files.read(path), files.name_of(path)
+    if is_bytes(raw):
+        raise Wrong(f"{file}: this is a file of bytes, which has no names; give the text that the bytes were made from")
+    return file, form.Reader(file, log=False).read(raw)[0]
 
 
 def named(tasks, names, file):

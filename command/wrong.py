@@ -12,7 +12,7 @@ TOLD = {
     errno.ENOTDIR: "a part of this path is a file and no folder",
     errno.EISDIR: "this is a folder, and a file is needed",
     errno.EACCES: "its permissions forbid it",
-    errno.EBADF: "it is closed",
+    errno.EBADF: "it is closed; open it",
     errno.EROFS: "it lies on a disk that is read-only",
     errno.ENOSPC: "no space is left on its disk",
     errno.ENAMETOOLONG: "the name is too long",
