@@ -11,6 +11,7 @@ from there import call, folder_with, hold, inside, run
 
 # the commands that read a text
 READERS = (["list", "in.txt"], ["check", "in.txt"], ["timeline", "in.txt", "-o", "out.svg"], ["bytes", "in.txt", "-o", "out.bin"], ["list", "--json", "in.txt"])
+EVENTS = ("tick", "release", "complete")
 OLD = {"out.svg": "an older picture", "out.bin": "older bytes", "out.txt": "an older text"}
 USES = {"good.txt": bad_uses.GOOD, "good.bin": bad_bytes.ONE + bad_bytes.event(1) + bad_bytes.event(2, 0, 1, 1) + bad_bytes.event(0, 0, 0, 9)}
 EACH = 5  # a case in so many is run as a process too
@@ -29,7 +30,7 @@ def tried(how, name, files, args, line):
         if files is USES:
             os.mkdir(f"{folder}/folder")
             os.symlink("loop", f"{folder}/loop")
-            os.symlink("good.txt", f"{folder}/link")
+            os.symlink("good.txt", f"{folder}/link.svg")
         before = inside(folder)
         ends(name, how(args, folder), line)
         hold(f"{name}: files", inside(folder), before)
@@ -37,7 +38,7 @@ def tried(how, name, files, args, line):
 
 def of_texts():
     for place, (name, text, line) in enumerate(bad_texts.CASES):
-        yield name, {"in.txt": text}, READERS[place % len(READERS)], line
+        yield name, {"in.txt": text}, READERS[0 if of_the_log(text, line) else place % len(READERS)], line
 
 
 def of_bytes():
@@ -54,7 +55,22 @@ def by_two_readers():
     """A wrong text gives its line whichever command reads it, and an older output stays."""
     for place, (name, text, line) in enumerate(bad_texts.CASES):
         for args in READERS[place % 5], READERS[(place + 2) % 5]:
-            tried(call, f"{name}: {' '.join(args)}", {"in.txt": text, **OLD}, args, line)
+            if args[0] == "check" and of_the_log(text, line):
+                left_out(name, text)
+            else:
+                tried(call, f"{name}: {' '.join(args)}", {"in.txt": text, **OLD}, args, line)
+
+
+def of_the_log(text, line):
+    """Whether what is wrong stands in a line of an event, or is that one stands above a task; `check` leaves the log out."""
+    number = line.split(":")[1]
+    return "after the event" in line or number.isdigit() and not isinstance(text, bytes) and text.split("\n")[int(number) - 1].split(" ")[0] in EVENTS
+
+
+def left_out(name, text):
+    with folder_with({"in.txt": text}) as folder:
+        found = call(["check", "in.txt"], folder)
+        hold(f"{name}: check leaves it out", (found.status, found.err), (0, ""))
 
 
 def look():

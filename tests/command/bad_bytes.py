@@ -26,14 +26,16 @@ TABLES = [
     ("K is 0", "timeline --json in.bin", b"\1" + task(1, 2, 3, 0, 0), "in.bin: table refused 4 at 0: K is 0, and it has to be from 1 to 64"),
     ("a hard task with K 9", "text in.bin", b"\2" + RECORD + task(1, 2, 3, 0, 9),
      "in.bin: table refused 4 at 1: m is 0 and K is 9, and a hard task, with m 0, has to have K 1"),
-    ("junk with zero bytes", "list in.bin", b"PK\3\4\x14\0\0\0", "in.bin: table refused 1 at 0: the first byte says 80 tasks, and 1 to 16 are needed"),
+    ("a table of two tasks whose count says one", "check in.bin", b"\1" + RECORD * 2,
+     "in.bin: the first byte says 1 task, and byte 17, behind them, begins no event record (45 56); look whether the count of tasks is right"),
+    ("junk with zero bytes", "list in.bin", b"PK\3\4\x14\0\0\0", "in.bin:1: a character that is no text, '\\x03', stands here; take it out, and save the file as UTF-8 text"),
 ]
 
 LOGS = [
     ("a log too long", "list in.bin", ONE + event(0) * 3276, "in.bin: the log is too long: the file has 65,537 bytes, and 65,536 are listed; cut the log"),
     ("bytes that are text already", "text a.txt", None, "a.txt: this is no file of bytes; 'brumerola list' and 'brumerola bytes' read text"),
     ("bytes where a text is needed", "bytes in.bin -o out.bin", ONE,
-     "in.bin:1: a zero byte stands here, so this is no text; a file of bytes is turned into text by 'brumerola text'"),
+     "in.bin: this is a file of bytes already; 'brumerola text' makes text of it"),
     ("a log that ends within a record", "text in.bin -o out.txt", ONE + event(0) + event(0)[:19],
      "in.bin: stop 5 at 20: event 2, from byte 37 of the file on: fewer than the 20 bytes of an event record are left; no text stands for this, so cut the file there"),
     ("an event without its mark", "text in.bin", ONE + b"E" + event(0),
@@ -52,7 +54,7 @@ NAMES = [
     ("names of a shorter table", "text in.bin --names a.txt -o out.txt", b"\2" + RECORD * 2,
      "a.txt: its table is not that of in.bin, so its names would be wrong; give the text that the bytes were made from"),
     ("names from bytes", "check in.bin --names in.bin", ONE,
-     "in.bin:1: a zero byte stands here, so this is no text; a file of bytes is turned into text by 'brumerola text'"),
+     "in.bin: this is a file of bytes, which has no names; give the text that the bytes were made from"),
     ("names from a file that is not there", "timeline in.bin --names b.txt -o out.svg", ONE, "b.txt: there is no such file or folder"),
     ("names for a text", "list a.txt --names a.txt", None, "a.txt: this is text and has names; --names is for a file of bytes"),
     ("names for the plain listing", "list in.bin --plain --names a.txt", ONE, "brumerola list: --plain shows no names, so leave --names out"),

@@ -43,7 +43,7 @@ WORDS = [
     ("a capital letter", "Task a C 1 D 2 T 3 m 0 K 1", f"in.txt:1: no line begins with 'Task'; {BEGIN}"),
     ("a comment of another language", TASK + "// a note", f"in.txt:2: no line begins with '//'; {BEGIN}"),
     ("a very long word", "x" * 50, f"in.txt:1: no line begins with '{'x' * 40}..'; {BEGIN}"),
-    ("an escape sequence", "\x1b[31mtask", f"in.txt:1: no line begins with '\\x1b[31mtask'; {BEGIN}"),
+    ("an escape sequence", "\x1b[31mtask", "in.txt:1: a character that is no text, '\\x1b', stands here; take it out, and save the file as UTF-8 text"),
     ("a word too many in a task", "task a C 1 D 2 T 3 m 0 K 1 hard", f"in.txt:1: 'hard' is a word too many; {SHAPE} ends before it"),
     ("a word too many in a tick", TASK + "tick at 2 ms", "in.txt:2: 'ms' is a word too many; 'tick at TIME' ends before it"),
     ("a word too many in a release", TASK + "release a at 2 3", "in.txt:2: '3' is a word too many; 'release NAME at TIME' ends before it"),
@@ -51,7 +51,7 @@ WORDS = [
     ("a task alone", "task", f"in.txt:1: the line ends after 'task', and {SHAPE} is needed"),
     ("a task without numbers", "task a", f"in.txt:1: the line ends after 'a', and {SHAPE} is needed"),
     ("a task without its last number", "task a C 1 D 2 T 3 m 0 K", f"in.txt:1: the line ends after 'K', and {SHAPE} is needed"),
-    ("a task without K", "task a C 1 D 2 T 3 m 0 # K 1", f"in.txt:1: the line ends after '0', and {SHAPE} is needed"),
+    ("a task without K", "task a C 1 D 2 T 3 m 0 # K 1", f"in.txt:1: the comment begins after '0', and {SHAPE} is needed"),
     ("a tick alone", TASK + "tick", "in.txt:2: the line ends after 'tick', and 'tick at TIME' is needed"),
     ("a tick without at", TASK + "tick 5", "in.txt:2: '5' stands where 'at' is needed, as in 'tick at TIME'"),
     ("a release without a time", TASK + "release a at", "in.txt:2: the line ends after 'at', and 'release NAME at TIME' is needed"),
@@ -73,7 +73,7 @@ TASKS = [
     ("a task after an event", TASK + "\ntick at 1\n" + TASK.replace("k a", "k b"), "in.txt:4: a task after the event of line 3; all tasks stand above the events"),
     ("a task that is not there", TASK + TASK.replace("k a", "k b") + "release c at 0", "in.txt:3: there is no task 'c' above; the tasks are a, b"),
     ("a task that is written otherwise", TASK + "complete A 1 at 0", "in.txt:2: there is no task 'A' above; the tasks are a"),
-    ("a release above all tasks", "release a at 0\n" + TASK, "in.txt:1: there is no task 'a' above; the tasks are none"),
+    ("a release above all tasks", "release a at 0\n" + TASK, "in.txt:1: there is no task 'a' above; tasks stand above the events"),
     ("a name that begins with a digit", "task 1a C 1 D 2 T 3 m 0 K 1", f"in.txt:1: '1a' {NO_NAME}"),
     ("a name that is a position", "task @0 C 1 D 2 T 3 m 0 K 1", f"in.txt:1: '@0' {NO_NAME}"),
     ("a name with a slash", "task a/b C 1 D 2 T 3 m 0 K 1", f"in.txt:1: 'a/b' {NO_NAME}"),
@@ -84,8 +84,13 @@ TASKS = [
 ]
 
 LETTERS = [
-    ("UTF-16, lowest byte first", TASK.encode("utf-16"), "in.txt: this is UTF-16 text; save it as UTF-8"),
-    ("UTF-16, highest byte first", b"\xfe\xff" + TASK.encode("utf-16-be"), "in.txt: this is UTF-16 text; save it as UTF-8"),
+    ("UTF-16, lowest byte first", TASK.encode("utf-16"), "in.txt: this is UTF-16 or UTF-32 text; save it as UTF-8"),
+    ("UTF-16, highest byte first", b"\xfe\xff" + TASK.encode("utf-16-be"), "in.txt: this is UTF-16 or UTF-32 text; save it as UTF-8"),
+    ("UTF-32", TASK.encode("utf-32"), "in.txt: this is UTF-16 or UTF-32 text; save it as UTF-8"),
+    ("a zero byte", TASK + "tick\0 at 0", "in.txt:2: a character that is no text, '\\x00', stands here; take it out, and save the file as UTF-8 text"),
+    ("a carriage return within a line", TASK + "# old\rtick at 0", "in.txt:2: a character that is no text, '\\r', stands here; take it out, and save the file as UTF-8 text"),
+    ("another script's line end", TASK + "# a\u2028tick at 0", "in.txt:2: a character that is no text, '\\u2028', stands here; take it out, and save the file as UTF-8 text"),
+    ("a space of another width", "task\u00a0a C 1 D 2 T 3 m 0 K 1", f"in.txt:1: no line begins with 'task\\xa0a'; {BEGIN}"),
     ("an accent of Latin-1 in a comment", TASK.encode() + b"# caf\xe9\n", "in.txt:2: byte 0xe9 is no UTF-8 text; save the file as UTF-8"),
     ("junk without a zero byte", b"\x89PNG\r\n\x1a\n\xc3\x28", "in.txt:1: byte 0x89 is no UTF-8 text; save the file as UTF-8"),
 ]

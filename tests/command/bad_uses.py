@@ -1,8 +1,9 @@
-"""Wrong uses: a name, the command's words, and the line that is told. good.txt is a right table and log, good.bin its bytes, folder a folder, loop a link to itself."""
+"""Wrong uses: a name, the command's words, and the line that is told. good.txt is a right table and log, good.bin its bytes, folder a folder, loop a link to itself, link.svg one to good.txt."""
 from bad_texts import TASK
 
 GOOD = TASK + "release a at 0\ncomplete a 1 at 1\ntick at 9\n"
 OWN = None  # the words are those of Python's argparse, which differ from version to version: they are one line of the command's form
+WHOLE = "brumerola timeline: --json prints all of the log and draws nothing, so leave -o, --from and --to out"
 ASK = "brumerola timeline: give the picture's name with -o, such as -o line.svg, or --json"
 
 OPTIONS = [
@@ -19,16 +20,16 @@ OPTIONS = [
     ("--from a word", ["timeline", "good.txt", "--from", "noon", "-o", "out.svg"], OWN),
     ("--from below 0", ["timeline", "good.txt", "--from=-1", "-o", "out.svg"], OWN),
     ("--to with a point", ["timeline", "good.txt", "--to", "1.5", "-o", "out.svg"], OWN),
-    ("--to of 14 digits", ["timeline", "good.txt", "--to", "12345678901234", "-o", "out.svg"], OWN),
+    ("--to of 21 digits", ["timeline", "good.txt", "--to", "123456789012345678901", "-o", "out.svg"], OWN),
     ("a line break in a word", ["list", "good.txt", "--ni\nce"], OWN),
     ("a picture without an output", ["timeline", "good.txt"], ASK),
-    ("a picture with an output and --json", ["timeline", "good.txt", "--json", "-o", "out.svg"], ASK),
-    ("--from with --json", ["timeline", "good.txt", "--json", "--from", "1"], "brumerola timeline: --json tells of the whole log, so leave --from and --to out"),
-    ("--to with --json", ["timeline", "good.txt", "--json", "--to", "1"], "brumerola timeline: --json tells of the whole log, so leave --from and --to out"),
-    ("--from after --to", ["timeline", "good.txt", "--from", "5", "--to", "3", "-o", "out.svg"], "brumerola: nothing lies from 5 to 3; the log goes from 0 to 9"),
-    ("--from at --to", ["timeline", "good.txt", "--from", "3", "--to", "3", "-o", "out.svg"], "brumerola: nothing lies from 3 to 3; the log goes from 0 to 9"),
-    ("--from at the end", ["timeline", "good.txt", "--from", "9", "-o", "out.svg"], "brumerola: nothing lies from 9 to 9; the log goes from 0 to 9"),
-    ("--to at the start", ["timeline", "good.txt", "--to", "0", "-o", "out.svg"], "brumerola: nothing lies from 0 to 0; the log goes from 0 to 9"),
+    ("a picture with an output and --json", ["timeline", "good.txt", "--json", "-o", "out.svg"], WHOLE),
+    ("--from with --json", ["timeline", "good.txt", "--json", "--from", "1"], WHOLE),
+    ("--to with --json", ["timeline", "good.txt", "--json", "--to", "1"], WHOLE),
+    ("--from after --to", ["timeline", "good.txt", "--from", "5", "--to", "3", "-o", "out.svg"], "brumerola timeline: --to 3 has to be after the first tick that is drawn, 5"),
+    ("--from at --to", ["timeline", "good.txt", "--from", "3", "--to", "3", "-o", "out.svg"], "brumerola timeline: --to 3 has to be after the first tick that is drawn, 3"),
+    ("--from at the end", ["timeline", "good.txt", "--from", "9", "-o", "out.svg"], "brumerola timeline: nothing is drawn from 9 on, since the log ends at 9; give --from a smaller time"),
+    ("--to at the start", ["timeline", "good.txt", "--to", "0", "-o", "out.svg"], "brumerola timeline: --to 0 has to be after the first tick that is drawn, 0"),
 ]
 
 INPUTS = [
@@ -51,9 +52,12 @@ OUTPUTS = [
     ("an empty name for the bytes", ["bytes", "good.txt", "-o", ""], "brumerola: the output's name is empty; give a name after -o"),
     ("an empty name for the text", ["text", "good.bin", "-o", ""], "brumerola: the output's name is empty; give a name after -o"),
     ("an empty name for the picture", ["timeline", "good.txt", "-o", ""], "brumerola: the output's name is empty; give a name after -o"),
-    ("the bytes over the text", ["bytes", "good.txt", "-o", "good.txt"], "good.txt: this is the input itself; give another name after -o"),
-    ("the text over the bytes", ["text", "good.bin", "-o", "./good.bin"], "./good.bin: this is the input itself; give another name after -o"),
-    ("the picture over the text, by a link", ["timeline", "good.txt", "-o", "link"], "link: this is the input itself; give another name after -o"),
+    ("the bytes over the text", ["bytes", "good.txt", "-o", "good.txt"], "good.txt: this file is read; give another name after -o"),
+    ("the text over the bytes", ["text", "good.bin", "-o", "./good.bin"], "./good.bin: this file is read; give another name after -o"),
+    ("the picture over the text, by a link", ["timeline", "good.txt", "-o", "link.svg"], "link.svg: this file is read; give another name after -o"),
+    ("the picture over the names", ["timeline", "good.bin", "--names", "good.txt", "-o", "link.svg"], "link.svg: this file is read; give another name after -o"),
+    ("the text over the names", ["text", "good.bin", "--names", "good.txt", "-o", "good.txt"], "good.txt: this file is read; give another name after -o"),
+    ("a picture of another kind", ["timeline", "good.txt", "-o", "out.png"], "out.png: the picture is SVG, which a browser shows; give a name that ends in .svg"),
     ("a full disk for the bytes", ["bytes", "good.txt", "-o", "/dev/full"], "/dev/full: no space is left on its disk"),
     ("a full disk for the picture", ["timeline", "good.txt", "-o", "/dev/full"], "/dev/full: no space is left on its disk"),
 ]
