@@ -3,35 +3,35 @@ import json
 
 from there import call, folder_with, hold
 
-MEND = "To mend it, make a D larger, a C smaller, or a T above larger, and check again."
+MEND = "To mend it, give it a larger D or a smaller C, or the tasks above it a larger T or a smaller C, and check again."
 KEPT = "It holds while no job runs past its C: docs/RULES.md, \"Chosen time\", has the premise in full."
 
 # a name, the table, the status, and lines that have to be there
 TABLES = [
     # above tension: nozzle. In 6 ticks nozzle can ask for ceil(6 / 4) = 2 jobs of 2 ticks, and tension for 3: 7, and 6 are there
     ("the rules' own", "task nozzle C 2 D 4 T 4 m 1 K 2\ntask tension C 3 D 6 T 8 m 1 K 3\n", 1, [
-        "in.txt: the guarantee does not hold: tension has no bound.",
+        "in.txt: there is no guarantee for this table: tension has no bound.",
         "0 nozzle 2 4 4 (1,2) 1 1 2 2 50.0 %",
         "1 tension 3 6 8 (1,3) 1 2 - - 37.5 %",
         "Together they can take 87.5 % of the processor. Slack is D less the bound.",
-        "tension fails: within its D of 6 ticks, it and the tasks above it can ask for 7: 3 for its own job, 4 for 2 jobs of nozzle.",
+        "tension has no bound: within its D of 6 ticks, it and the tasks above it can ask for 7: 3 for its own job, 4 for 2 jobs of nozzle.",
         MEND]),
     # with D 7 the same demand, 7, is just enough
     ("the rules' own, with a bound", "task nozzle C 2 D 4 T 4 m 1 K 2\ntask tension C 3 D 7 T 8 m 1 K 3\n", 0, [
         "in.txt: the guarantee holds: every task has a bound.", "1 tension 3 7 8 (1,3) 1 2 7 0 37.5 %", KEPT]),
     # equal deadlines: the first stands above. In 5 ticks: b 3 and a 3 are 6. And c, with D 9, 1 + 2 jobs of a and 2 of b in 9 ticks: 13
     ("equal deadlines", "task a C 3 D 5 T 5 m 0 K 1\ntask b C 3 D 5 T 5 m 1 K 2\ntask c C 1 D 9 T 9 m 1 K 2\n", 1, [
-        "in.txt: the guarantee does not hold: b and c have no bound.",
+        "in.txt: there is no guarantee for this table: b and c have no bound.",
         "0 a 3 5 5 hard 0 1 3 2 60.0 %",
-        "b fails: within its D of 5 ticks, it and the tasks above it can ask for 6: 3 for its own job, 3 for 1 job of a.",
-        "c fails: within its D of 9 ticks, it and the tasks above it can ask for 13: 1 for its own job, 6 for 2 jobs of a and 6 for 2 jobs of b."]),
+        "b has no bound: within its D of 5 ticks, it and the tasks above it can ask for 6: 3 for its own job, 3 for 1 job of a.",
+        "c has no bound: within its D of 9 ticks, it and the tasks above it can ask for 13: 1 for its own job, 6 for 2 jobs of a and 6 for 2 jobs of b."]),
     # seven tasks above one: the four that ask for most are named. In 1,000 ticks: 10 jobs of t7 (10 x 70), t6 600, .. t1 100, and 500
     ("many above", "".join(f"task t{n} C {10 * n} D 100 T 100 m 0 K 1\n" for n in range(1, 8)) + "task low C 500 D 1000 T 1000 m 0 K 1\n", 1, [
-        "low fails: within its D of 1,000 ticks, it and the tasks above it can ask for 3,300: 500 for its own job, 700 for 10 jobs of t7, 600 for 10 jobs of t6, "
+        "low has no bound: within its D of 1,000 ticks, it and the tasks above it can ask for 3,300: 500 for its own job, 700 for 10 jobs of t7, 600 for 10 jobs of t6, "
         "500 for 10 jobs of t5, 400 for 10 jobs of t4 and 600 for 3 other tasks."]),
     # five above are all named: none would be left out for one more word
     ("five above", "".join(f"task t{n} C {10 * n} D 100 T 100 m 0 K 1\n" for n in range(1, 6)) + "task low C 500 D 1000 T 1000 m 0 K 1\n", 1, [
-        "low fails: within its D of 1,000 ticks, it and the tasks above it can ask for 2,000: 500 for its own job, 500 for 10 jobs of t5, 400 for 10 jobs of t4, "
+        "low has no bound: within its D of 1,000 ticks, it and the tasks above it can ask for 2,000: 500 for its own job, 500 for 10 jobs of t5, 400 for 10 jobs of t4, "
         "300 for 10 jobs of t3, 200 for 10 jobs of t2 and 100 for 10 jobs of t1."]),
 ]
 
@@ -44,7 +44,7 @@ def tables():
             shown = [" ".join(line.split()) for line in found.out.decode().splitlines()]
             for line in lines:
                 hold(f"check {name}: a line '{line}'", shown.count(line), 1)
-            hold(f"check {name}: how many fail", sum(" fails: " in line for line in shown), text.count("\n") - sum(line.split()[-4:-3] != ["-"] for line in rows(shown)))
+            hold(f"check {name}: how many fail", sum(" has no bound: " in line for line in shown), text.count("\n") - sum(line.split()[-4:-3] != ["-"] for line in rows(shown)))
             as_json(name, json.loads(call(["check", "--json", "in.txt"], folder).out), shown)
     return len(TABLES)
 
@@ -62,8 +62,8 @@ def as_json(name, told, shown):
         bound, slack = ("-", "-") if task["bound"] is None else (task["bound"], task["slack"])
         found.append(f"{task['position']} {task['name']} {task['C']} {task['D']} {task['T']} {misses} {task['w']} {task['h']} {bound} {slack} {100 * task['utilisation']:.1f} %")
     hold(f"check {name}: rows as JSON", found, rows(shown))
-    hold(f"check {name}: reasons as JSON", [task["why"] for task in told["tasks"] if task["why"]], [line for line in shown if " fails: " in line])
-    hold(f"check {name}: JSON", (told["holds"], round(told["utilisation"] - sum(task["C"] / task["T"] for task in told["tasks"]), 9)), (" fails: " not in "".join(shown), 0))
+    hold(f"check {name}: reasons as JSON", [task["why"] for task in told["tasks"] if task["why"]], [line for line in shown if " has no bound: " in line])
+    hold(f"check {name}: JSON", (told["guaranteed"], round(told["utilisation"] - sum(task["C"] / task["T"] for task in told["tasks"]), 9)), (" has no bound: " not in "".join(shown), 0))
 
 
 def example(text, from_bytes, names, tasks, plain):

@@ -3,13 +3,15 @@ import os
 from concurrent.futures import ThreadPoolExecutor
 
 import checks
-from parsed import of_json, of_list, of_text
+from follow import followed
+from parsed import beside, events_of, of_json, of_list, of_text
 from there import COMMAND, EXAMPLE, ROOT, Ended, call, folder_with, hold, run
 
 PLAIN = (ROOT / "examples/line.out").read_bytes()
 BYTES = ROOT / "examples/line.bin"
 NAMED = [str(BYTES), "--names", str(EXAMPLE)]
 NAMES, TASKS, EVENTS = of_text(EXAMPLE.read_text())
+LINE = followed(BYTES.read_bytes())
 
 
 def printed(what, found):
@@ -23,23 +25,17 @@ def lists(run_all):
     plain, from_bytes, shown, named, bare = [printed(f"list {place}", found) for place, found in enumerate(texts)]
     hold("the plain listing of the text", plain.encode(), PLAIN)
     hold("the plain listing of the bytes", from_bytes.encode(), PLAIN)
-    hold("the listing with names taken away", of_list(shown, NAMES, EVENTS, TASKS), PLAIN.decode())
+    hold("the listing with names taken away", of_list(shown, NAMES, list(beside(LINE, NAMES)), TASKS), PLAIN.decode())
     hold("the listing of the bytes with names", named, shown)
-    hold("the listing of the bytes without names", of_list(bare, None, [event.replace(name, f"task{at}") for at, name, event in with_names()], TASKS), PLAIN.decode())
-
-
-def with_names():
-    """Each event of the text with the position and name that stand in it."""
-    for event in EVENTS:
-        name = event.split()[1]
-        yield (NAMES.index(name), name, event) if name in NAMES else (0, "no name", event)
+    hold("the listing of the bytes without names", of_list(bare, None, list(beside(LINE, [f"task{place}" for place in range(10)])), TASKS), PLAIN.decode())
+    hold("the events of the text", list(events_of(LINE, NAMES)), EVENTS)
 
 
 def screens(run_all):
     texts = run_all([["list", "--json", str(EXAMPLE)], ["timeline", "--json", str(EXAMPLE)], ["check", "--json", str(EXAMPLE)], ["check", str(BYTES)]])
     listed, drawn, checked, from_bytes = [printed(f"JSON {place}", found) for place, found in enumerate(texts)]
-    hold("the listing as JSON", of_json(listed, NAMES, EVENTS, TASKS), PLAIN.decode())
-    hold("the timeline as JSON", of_json(drawn, NAMES, EVENTS, TASKS), PLAIN.decode())
+    hold("the listing as JSON", of_json(listed, NAMES, LINE, TASKS), PLAIN.decode())
+    hold("the timeline as JSON", of_json(drawn, NAMES, LINE, TASKS), PLAIN.decode())
     checks.example(checked, from_bytes, NAMES, TASKS, PLAIN.decode())
 
 

@@ -47,7 +47,7 @@ class Line:
 
     def __init__(self, tasks):
         self.tasks = [Task(place, *numbers) for place, numbers in enumerate(tasks)]
-        self.clock, self.events, self.answers = 0, [], []
+        self.clock, self.events, self.answers, self.clocks = 0, [], [], []
         self.choices = [(0, None)]  # from when on which job is the choice
 
     def refused(self, kind, place, number, time):
@@ -66,6 +66,7 @@ class Line:
 
     def apply(self, kind, place, number, time):
         self.events.append((kind, place, number, time))
+        self.clocks.append(self.clock)
         count, refused = len(self.events), self.refused(kind, place, number, time)
         if refused:
             self.answers.append(f"event {count} refused {refused}")

@@ -1,26 +1,25 @@
 """Stored cases of the listing, as people see them: the shown listing and its JSON hold the program's text, and one that is refused is told with its number."""
+import re
+
 from follow import followed
-from parsed import called, of_json, of_list
+from parsed import beside, of_json, of_list
 from there import ROOT, call, folder_with, hold
 
 FOLDER = ROOT / "tests/cases/listing"
 MOST = 10000  # bytes; longer ones show nothing new
 
 
-def events_of(line, names):
-    """The events as words."""
-    for kind, place, job, time in line.events:
-        who = f" {called(place, names)}" if kind else ""
-        yield f"{('tick', 'release', 'complete')[kind]}{who}{f' {job}' if kind == 2 else ''} at {time}"
-
-
 def shown(name, folder, raw, plain):
     """A case whose table is accepted."""
     line = followed(raw)
     names = [f"task{place}" for place in range(len(line.tasks))]
-    events, tasks = list(events_of(line, names)), [{field: getattr(task, field) for field in "CDTmK"} for task in line.tasks]
-    hold(f"{name}: shown", of_list(call(["list", "in.bin"], folder).out.decode(), None, events, tasks), plain)
-    hold(f"{name}: as JSON", of_json(call(["list", "--json", "in.bin"], folder).out, names, events, tasks), plain)
+    tasks = [{field: getattr(task, field) for field in "CDTmK"} for task in line.tasks]
+    listed, screen = call(["list", "in.bin"], folder), call(["list", "--json", "in.bin"], folder)
+    hold(f"{name}: shown", of_list(listed.out.decode(), None, list(beside(line, names)), tasks), plain)
+    hold(f"{name}: as JSON", of_json(screen.out, names, line, tasks), plain)
+    stop = re.search(r"^stop \d+ at \d+", plain, re.M)
+    for found in listed, screen:
+        hold(f"{name}: end", (found.status, found.err[: len(f"in.bin: {stop[0]}: ")] if stop else found.err), (0, f"in.bin: {stop[0]}: " if stop else ""))
 
 
 def refused(name, folder, plain):
