@@ -6,8 +6,8 @@ TICK, RELEASE, COMPLETION = range(3)
 
 
 class Job:
-    def __init__(self, place, number, release, deadline, cls):
-        self.place, self.number, self.release, self.deadline, self.cls = place, number, release, deadline, cls
+    def __init__(self, place, number, release, deadline, cls, since):
+        self.place, self.number, self.release, self.deadline, self.cls, self.since = place, number, release, deadline, cls, since
         self.state, self.closed, self.event = "open", None, None
 
 
@@ -49,6 +49,7 @@ class Line:
         self.tasks = [Task(place, *numbers) for place, numbers in enumerate(tasks)]
         self.clock, self.events, self.answers, self.clocks = 0, [], [], []
         self.choices = [(0, None)]  # from when on which job is the choice
+        self.spans = None  # by job, worked out once the log has ended
 
     def refused(self, kind, place, number, time):
         """The number of the refusal, or 0 (Rules, O3); 11 and 12 look at what step 1 leaves."""
@@ -79,7 +80,7 @@ class Line:
         if kind == RELEASE:
             if task.open():
                 task.close("missed", time, count)
-            task.jobs.append(Job(place, len(task.jobs) + 1, time, time + task.D, max(task.level, 0)))
+            task.jobs.append(Job(place, len(task.jobs) + 1, time, time + task.D, max(task.level, 0), count))
         elif kind == COMPLETION:
             task.close("met", time, count)
         job = self.choice()
@@ -90,6 +91,19 @@ class Line:
     def choice(self):
         """Rules, H1."""
         return min(filter(None, (task.open() for task in self.tasks)), key=lambda job: (job.cls, self.tasks[job.place].D, job.place), default=None)
+
+    def now(self):
+        """The last time of the log: the clock, or that of an event that was refused for another reason than its time."""
+        refused = zip(self.events, self.answers)
+        return max([self.clock, *(event[3] for event, answer in refused if "refused" in answer and not answer.endswith(" 9"))])
+
+    def chosen(self, job):
+        """From when to when a job was the choice before its deadline, up to the last time (Rules, P1)."""
+        if self.spans is None:
+            self.spans, ends = {}, [time for time, _ in self.choices[1:]] + [self.now()]
+            for (start, chosen), end in zip(self.choices, ends):
+                self.spans.setdefault(chosen, []).append((start, end))
+        return [(start, min(end, job.deadline)) for start, end in self.spans.get(job, []) if start < min(end, job.deadline)]
 
     def jobs(self):
         return [job for task in self.tasks for job in task.jobs]

@@ -4,7 +4,7 @@ from collections import namedtuple
 from xml.etree import ElementTree
 
 SVG = "{http://www.w3.org/2000/svg}"
-SHIFT = {"met": 3, "cross": 5, "up": 0, "down": 0}  # how far left of its time a sign begins
+SHIFT = {"met": 3, "cross": 5, "used": 4, "axis": 3}  # how far left of its time a sign begins
 Sign = namedtuple("Sign", "kind row x")
 Bar = namedtuple("Bar", "kind row start end")
 Group = namedtuple("Group", "title signs bars digit")
@@ -43,7 +43,8 @@ class Strip:
             kind, x, y = path.get("class"), *map(float, re.match(r"M(\S+) (\d+)", path.get("d")).groups())
             if kind == "refused":
                 kind, x = ("flag", x + 4) if "h8" in path.get("d") else ("diamond", x)
-            signs.append(Sign("tick" if kind == "axis" else kind, self.row(y), x + SHIFT.get(kind, 3 if kind == "axis" else 0)))
+            signs.append(Sign("tick" if kind == "axis" else kind, self.row(y), x + SHIFT.get(kind, 0)))
+        signs += [Sign("ring", self.row(place(ring, "cy")), place(ring, "cx")) for ring in group.findall(f"{SVG}circle")]
         for rect in group.findall(f"{SVG}rect"):
             bars.append(Bar(rect.get("class"), self.row(place(rect, "y")), place(rect, "x"), place(rect, "x") + place(rect, "width")))
         return signs, bars
@@ -103,8 +104,10 @@ def reached(element):
     elif kind == "rect":
         yield get("x"), get("y"), element.get("class")
         yield get("x") + get("width"), get("y") + get("height"), element.get("class")
+    elif kind == "circle":
+        yield from ((get("cx") + side * get("r"), get("cy") + side * get("r"), element.get("class")) for side in (-1, 1))
     elif kind == "text":
-        wide = 5 * len(element.text)  # a letter has more, but for a few
+        wide = (4 if element.get("class") == "small" else 5) * len(element.text)  # a letter has more, but for a few
         start = get("x") - {"middle": wide / 2, "end": wide}.get(element.get("text-anchor"), 0)
         yield from ((x, get("y"), element.text) for x in (start, start + wide))
     elif kind == "path":

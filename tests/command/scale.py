@@ -17,22 +17,19 @@ class Scale:
             self.errors.append(f"{what}: {time} stands at {x} and at {known}")
 
     def note_bar(self, start, end, bar):
-        """A bar goes from time to time, or to the strip's edge."""
+        """A bar goes from time to time, or to the strip's edge; which of its ends are those of the times."""
+        found = set()
         for time, x, edge in (start, bar.start, self.strip.left), (end, bar.end, self.strip.right):
             if abs(x - edge) > NEAR:
                 self.note(time, x, bar.kind)
+            if abs(self.at.get(time, -1) - x) <= NEAR:
+                found.add("start" if time == start else "end")
         if bar.start >= bar.end:
             self.errors.append(f"{bar.kind}: it ends at {bar.end} and begins at {bar.start}")
-
-    def note_all(self, times, places, what):
-        """Signs in a row: those of the times that lie in this strip, in order."""
-        inside = [time for time in times if time in self.at]
-        if len(inside) == len(places):
-            for time, x in zip(inside, places):
-                self.note(time, x, what)
+        return found
 
     def cut_between(self, left, right):
-        return any(begin >= left - NEAR and end <= right + NEAR for begin, end in self.strip.cuts)
+        return any(begin < right - NEAR and end > left + NEAR for begin, end in self.strip.cuts)
 
     def wrong(self):
         """What does not agree, at most three of it."""
