@@ -29,7 +29,7 @@ class Scale:
         return found
 
     def cut_between(self, left, right):
-        return any(begin < right - NEAR and end > left + NEAR for begin, end in self.strip.cuts)
+        return any(begin < right + NEAR and end > left + NEAR for begin, end in self.strip.cuts)
 
     def wrong(self):
         """What does not agree, at most three of it."""
