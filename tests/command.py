@@ -1,6 +1,7 @@
 #!/usr/bin/env python3
-"""command.py: what people type gives what docs/COMMAND.md and docs/TEXT.md say. Wrong uses end with one line and write nothing, the example's answers are those of the
-proved program, text and bytes go there and back, and a picture shows what the listing says or is not drawn. Each idea is a file of tests/command/.
+"""command.py: what people type gives what docs/COMMAND.md and docs/TEXT.md say. Wrong uses end with one line and write nothing, the example's answers
+are those of the proved program, text and bytes go there and back, and a picture shows what the listing says or is not drawn. Each idea is a file of
+tests/command/.
 
 It prints each thing that differs and fails if there is one."""
 import pathlib

@@ -4,6 +4,7 @@ SHAPE = "'task NAME C N D N T N m N K N'"
 NUMBER = "a whole number from 0 to"
 NO_NAME = "is no name; a name is a letter, then letters, digits, '_', '-' and '.'"
 BEGIN = "begin it with task, release, complete, tick or #"
+STRAY = "stands here; take it out, and save the file as UTF-8 text"
 NO_TASK = f"in.txt: there is no task in it; a line such as {SHAPE} is one, with a number for each N"
 FULL = TASK + "tick at 0\n" * 3275  # 1 + 16 + 20 * 3275 = 65,517 bytes: no event more fits into 65,536
 SIXTEEN = "".join(f"task t{n} C 1 D 2 T 3 m 0 K 1\n" for n in range(16))
@@ -33,7 +34,8 @@ TOO_LARGE = [
     ("m too large", "task a C 1 D 2 T 3 m 256 K 1", "in.txt:1: m of a is '256', and it is at most 255"),
     ("K too large", "task a C 1 D 2 T 3 m 0 K 256", "in.txt:1: K of a is '256', and it is at most 255"),
     ("a time too large", TASK + "tick at 18446744073709551616", "in.txt:2: the time is '18446744073709551616', and it is at most 18,446,744,073,709,551,615"),
-    ("a job too large", TASK + "complete a 18446744073709551616 at 2", "in.txt:2: the job is '18446744073709551616', and it is at most 18,446,744,073,709,551,615"),
+    ("a job too large", TASK + "complete a 18446744073709551616 at 2",
+     "in.txt:2: the job is '18446744073709551616', and it is at most 18,446,744,073,709,551,615"),
     ("a position too large", TASK + "release @256 at 2", "in.txt:2: the position behind @ is '256', and it is at most 255"),
     ("a number of 5,000 digits", TASK + "tick at " + "9" * 5000, f"in.txt:2: the time is '{'9' * 40}..', and it is at most 18,446,744,073,709,551,615"),
 ]
@@ -43,7 +45,7 @@ WORDS = [
     ("a capital letter", "Task a C 1 D 2 T 3 m 0 K 1", f"in.txt:1: no line begins with 'Task'; {BEGIN}"),
     ("a comment of another language", TASK + "// a note", f"in.txt:2: no line begins with '//'; {BEGIN}"),
     ("a very long word", "x" * 50, f"in.txt:1: no line begins with '{'x' * 40}..'; {BEGIN}"),
-    ("an escape sequence", "\x1b[31mtask", "in.txt:1: a character that is no text, '\\x1b', stands here; take it out, and save the file as UTF-8 text"),
+    ("an escape sequence", "\x1b[31mtask", f"in.txt:1: a character that is no text, '\\x1b', {STRAY}"),
     ("a word too many in a task", "task a C 1 D 2 T 3 m 0 K 1 hard", f"in.txt:1: 'hard' is a word too many; {SHAPE} ends before it"),
     ("a word too many in a tick", TASK + "tick at 2 ms", "in.txt:2: 'ms' is a word too many; 'tick at TIME' ends before it"),
     ("a word too many in a release", TASK + "release a at 2 3", "in.txt:2: '3' is a word too many; 'release NAME at TIME' ends before it"),
@@ -70,7 +72,8 @@ TASKS = [
     ("two tasks of one name", TASK + "\n" + TASK, "in.txt:3: task 'a' stands in line 1 already; give each task a name of its own"),
     ("two tasks of one name, spelled in two ways", TASK.replace("a", "\u00e9", 2).replace("t\u00e9sk", "task") + TASK.replace("k a", "k e\u0301"),
      "in.txt:2: task '\u00e9' stands in line 1 already; give each task a name of its own"),
-    ("a task after an event", TASK + "\ntick at 1\n" + TASK.replace("k a", "k b"), "in.txt:4: a task after the event of line 3; all tasks stand above the events"),
+    ("a task after an event", TASK + "\ntick at 1\n" + TASK.replace("k a", "k b"),
+     "in.txt:4: a task after the event of line 3; all tasks stand above the events"),
     ("a task that is not there", TASK + TASK.replace("k a", "k b") + "release c at 0", "in.txt:3: there is no task 'c' above; the tasks are a, b"),
     ("a task that is written otherwise", TASK + "complete A 1 at 0", "in.txt:2: there is no task 'A' above; the tasks are a"),
     ("a release above all tasks", "release a at 0\n" + TASK, "in.txt:1: there is no task 'a' above; tasks stand above the events"),
@@ -80,16 +83,17 @@ TASKS = [
     ("a name with a zero width space", "task a\u200bb C 1 D 2 T 3 m 0 K 1", f"in.txt:1: 'a\\u200bb' {NO_NAME}"),
     ("a name too long", "task abcdefghijklmnopqrstuvwxy C 1 D 2 T 3 m 0 K 1",
      "in.txt:1: the name 'abcdefghijklmnopqrstuvwxy' has 25 characters, and at most 24 are allowed"),
-    ("a log too long", FULL + "tick at 0", "in.txt:3277: the log is too long: 3,275 events and the table fill the 65,536 bytes that are listed; cut the log before this line"),
+    ("a log too long", FULL + "tick at 0",
+     "in.txt:3277: the log is too long: 3,275 events and the table fill the 65,536 bytes that are listed; cut the log before this line"),
 ]
 
 LETTERS = [
     ("UTF-16, lowest byte first", TASK.encode("utf-16"), "in.txt: this is UTF-16 or UTF-32 text; save it as UTF-8"),
     ("UTF-16, highest byte first", b"\xfe\xff" + TASK.encode("utf-16-be"), "in.txt: this is UTF-16 or UTF-32 text; save it as UTF-8"),
     ("UTF-32", TASK.encode("utf-32"), "in.txt: this is UTF-16 or UTF-32 text; save it as UTF-8"),
-    ("a zero byte", TASK + "tick\0 at 0", "in.txt:2: a character that is no text, '\\x00', stands here; take it out, and save the file as UTF-8 text"),
-    ("a carriage return within a line", TASK + "# old\rtick at 0", "in.txt:2: a character that is no text, '\\r', stands here; take it out, and save the file as UTF-8 text"),
-    ("another script's line end", TASK + "# a\u2028tick at 0", "in.txt:2: a character that is no text, '\\u2028', stands here; take it out, and save the file as UTF-8 text"),
+    ("a zero byte", TASK + "tick\0 at 0", f"in.txt:2: a character that is no text, '\\x00', {STRAY}"),
+    ("a carriage return within a line", TASK + "# old\rtick at 0", f"in.txt:2: a character that is no text, '\\r', {STRAY}"),
+    ("another script's line end", TASK + "# a\u2028tick at 0", f"in.txt:2: a character that is no text, '\\u2028', {STRAY}"),
     ("a space of another width", "task\u00a0a C 1 D 2 T 3 m 0 K 1", f"in.txt:1: no line begins with 'task\\xa0a'; {BEGIN}"),
     ("an accent of Latin-1 in a comment", TASK.encode() + b"# caf\xe9\n", "in.txt:2: byte 0xe9 is no UTF-8 text; save the file as UTF-8"),
     ("junk without a zero byte", b"\x89PNG\r\n\x1a\n\xc3\x28", "in.txt:1: byte 0x89 is no UTF-8 text; save the file as UTF-8"),

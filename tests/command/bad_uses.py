@@ -1,4 +1,6 @@
-"""Wrong uses: a name, the command's words, and the line that is told. good.txt is a right table and log, good.bin its bytes, folder a folder, loop a link to itself, link.svg one to good.txt."""
+"""Wrong uses: a name, the command's words, and the line that is told.
+
+good.txt is a right table and log, good.bin its bytes, folder a folder, loop a link to itself, and link.svg one to good.txt."""
 from bad_texts import TASK
 
 GOOD = TASK + "release a at 0\ncomplete a 1 at 1\ntick at 9\n"
@@ -26,9 +28,12 @@ OPTIONS = [
     ("a picture with an output and --json", ["timeline", "good.txt", "--json", "-o", "out.svg"], WHOLE),
     ("--from with --json", ["timeline", "good.txt", "--json", "--from", "1"], WHOLE),
     ("--to with --json", ["timeline", "good.txt", "--json", "--to", "1"], WHOLE),
-    ("--from after --to", ["timeline", "good.txt", "--from", "5", "--to", "3", "-o", "out.svg"], "brumerola timeline: --to 3 has to be after the first tick that is drawn, 5"),
-    ("--from at --to", ["timeline", "good.txt", "--from", "3", "--to", "3", "-o", "out.svg"], "brumerola timeline: --to 3 has to be after the first tick that is drawn, 3"),
-    ("--from at the end", ["timeline", "good.txt", "--from", "9", "-o", "out.svg"], "brumerola timeline: nothing is drawn from 9 on, since the log ends at 9; give --from a smaller time"),
+    ("--from after --to", ["timeline", "good.txt", "--from", "5", "--to", "3", "-o", "out.svg"],
+     "brumerola timeline: --to 3 has to be after the first tick that is drawn, 5"),
+    ("--from at --to", ["timeline", "good.txt", "--from", "3", "--to", "3", "-o", "out.svg"],
+     "brumerola timeline: --to 3 has to be after the first tick that is drawn, 3"),
+    ("--from at the end", ["timeline", "good.txt", "--from", "9", "-o", "out.svg"],
+     "brumerola timeline: nothing is drawn from 9 on, since the log ends at 9; give --from a smaller time"),
     ("--to at the start", ["timeline", "good.txt", "--to", "0", "-o", "out.svg"], "brumerola timeline: --to 0 has to be after the first tick that is drawn, 0"),
 ]
 
@@ -42,7 +47,8 @@ INPUTS = [
     ("a file without an end", ["list", "/dev/zero"], "/dev/zero: this file has more than 16 MiB, and no table and log that can be listed is so long"),
     ("a line break in a name", ["list", "a\nb"], "a\\nb: there is no such file or folder"),
     ("an empty name for --names", ["list", "good.bin", "--names", ""], "brumerola: the file's name is empty; give the name of a file"),
-    ("standard input that is wrong", ["list", "-"], "standard input: there is no task in it; a line such as 'task NAME C N D N T N m N K N' is one, with a number for each N"),
+    ("standard input that is wrong", ["list", "-"],
+     "standard input: there is no task in it; a line such as 'task NAME C N D N T N m N K N' is one, with a number for each N"),
 ]
 
 OUTPUTS = [
@@ -55,9 +61,11 @@ OUTPUTS = [
     ("the bytes over the text", ["bytes", "good.txt", "-o", "good.txt"], "good.txt: this file is read; give another name after -o"),
     ("the text over the bytes", ["text", "good.bin", "-o", "./good.bin"], "./good.bin: this file is read; give another name after -o"),
     ("the picture over the text, by a link", ["timeline", "good.txt", "-o", "link.svg"], "link.svg: this file is read; give another name after -o"),
-    ("the picture over the names", ["timeline", "good.bin", "--names", "good.txt", "-o", "link.svg"], "link.svg: this file is read; give another name after -o"),
+    ("the picture over the names", ["timeline", "good.bin", "--names", "good.txt", "-o", "link.svg"],
+     "link.svg: this file is read; give another name after -o"),
     ("the text over the names", ["text", "good.bin", "--names", "good.txt", "-o", "good.txt"], "good.txt: this file is read; give another name after -o"),
-    ("a picture of another kind", ["timeline", "good.txt", "-o", "out.png"], "out.png: the picture is SVG, which a browser shows; give a name that ends in .svg"),
+    ("a picture of another kind", ["timeline", "good.txt", "-o", "out.png"],
+     "out.png: the picture is SVG, which a browser shows; give a name that ends in .svg"),
     ("a full disk for the bytes", ["bytes", "good.txt", "-o", "/dev/full"], "/dev/full: no space is left on its disk"),
     ("a full disk for the picture", ["timeline", "good.txt", "-o", "/dev/full"], "/dev/full: no space is left on its disk"),
 ]

@@ -1,4 +1,5 @@
-"""A listing that cannot be true is an error and not a picture: the program's text is changed before the command reads it, and each change gives one line and no file."""
+"""A listing that cannot be true is an error and not a picture: the program's text is changed before the command reads it, and each change gives one line
+and no file."""
 from unittest import mock
 
 from bad import ends
@@ -46,7 +47,8 @@ HISTORY = [
 FORM = [
     ("a line too many", "event 8 idle\n", "event 8 idle\nevent 9 idle\n", "brumerola: the listing has 2 tasks and 9 events, and the file 2 and 8" + FAULT),
     ("a line too few", "event 8 idle\n", "", "brumerola: the listing has 2 tasks and 7 events, and the file 2 and 8" + FAULT),
-    ("a stop that the file does not have", "event 8 idle\n", "event 8 idle\nstop 5 at 160\n", "brumerola: the listing stops at 160, and the events end at 160 with 0 bytes left" + FAULT),
+    ("a stop that the file does not have", "event 8 idle\n", "event 8 idle\nstop 5 at 160\n",
+     "brumerola: the listing stops at 160, and the events end at 160 with 0 bytes left" + FAULT),
     ("a task too many", "broken 0\ntask 1", "broken 0\ntask 2 met 0 missed 0 open 0 window 0 broken 0\ntask 1",
      f"{UNKNOWN}'task 2 met 0 missed 0 open 0 window 0 br..'{SOURCES}"),
     ("a last line too few", "task 1 met 1 missed 0 open 0 window 0 broken 0\n", "", f"{UNKNOWN}''{SOURCES}"),
@@ -54,7 +56,8 @@ FORM = [
     ("a line of another form", "event 5 run 1 class 0", "event 5 run 1 level 0", f"{UNKNOWN}'event 5 run 1 level 0'{SOURCES}"),
     ("a word too many", "event 8 idle", "event 8 idle now", f"{UNKNOWN}'event 8 idle now'{SOURCES}"),
     ("a negative number", "window 1 broken 0", "window -1 broken 0", f"{UNKNOWN}'task 0 met 1 missed 1 open 0 window -1 b..'{SOURCES}"),
-    ("no newline at the end", "window 0 broken 0\n", "window 0 broken 0", "brumerola: the listing ends within a line, so something of it is lost; run it again"),
+    ("no newline at the end", "window 0 broken 0\n", "window 0 broken 0",
+     "brumerola: the listing ends within a line, so something of it is lost; run it again"),
     ("lines behind the end", "window 0 broken 0\n", "window 0 broken 0\nmore\n", f"{UNKNOWN}'more'{SOURCES}"),
 ]
 

@@ -5,8 +5,8 @@ from there import hold
 
 SAID = {12: "the task has no open job of this number", 11: "less than T after the task's last release", 10: "the table has no task at this position"}
 
-STOPPED = {5: "fewer than the 20 bytes of an event record are left", 6: "no event record begins here: its first two bytes are not 45 56", 7: "the kind is 3 or more",
-           8: "a tick or release has a number in a field that has to be 0"}
+STOPPED = {5: "fewer than the 20 bytes of an event record are left", 6: "no event record begins here: its first two bytes are not 45 56",
+           7: "the kind is 3 or more", 8: "a tick or release has a number in a field that has to be 0"}
 
 
 def called(place, names):
@@ -106,7 +106,8 @@ def of_json(text, names, line, tasks):
         run = event["run"]
         if run:
             hold("the chosen task's name", run["task"], names[run["position"]])
-        plain.append(f"event {number} " + (f"refused {event['refused']}" if event["refused"] else f"run {run['position']} class {run['class']}" if run else "idle"))
+        chosen = f"run {run['position']} class {run['class']}" if run else "idle"
+        plain.append(f"event {number} " + (f"refused {event['refused']}" if event["refused"] else chosen))
     if told["stop"]:
         plain.append(f"stop {told['stop']['refused']} at {told['stop']['offset']}")
         hold("why the log stops", told["stop"]["why"], STOPPED[told["stop"]["refused"]])

@@ -1,4 +1,5 @@
-"""The timeline's picture, read back: it shows the jobs, the choice and the refusals of the rules, at one place for one time, and its counts are the listing's."""
+"""The timeline's picture, read back: it shows the jobs, the choice and the refusals of the rules, at one place for one time, and its counts are those
+of the listing."""
 import random
 import re
 from collections import Counter

@@ -77,7 +77,8 @@ def counted(what, line, job, why, at, name):
 
 def completion(line, job):
     """What became of the job's completion."""
-    refused = [(number, event) for number, event in enumerate(line.events, 1) if event[:2] == (COMPLETION, job.place) and number > job.since and reason(line, number)]
+    later = [(number, event) for number, event in enumerate(line.events, 1) if event[:2] == (COMPLETION, job.place) and number > job.since]
+    refused = [(number, event) for number, event in later if reason(line, number)]
     for number, (_, _, named, time) in refused:
         if named == job.number and line.answers[number - 1].endswith(" 9"):
             return f"; its completion, event {number}, was refused: {reason(line, number)}"
