@@ -14,7 +14,7 @@ READERS = (["list", "in.txt"], ["check", "in.txt"], ["timeline", "in.txt", "-o",
 EVENTS = ("tick", "release", "complete")
 OLD = {"out.svg": "an older picture", "out.bin": "older bytes", "out.txt": "an older text"}
 USES = {"good.txt": bad_uses.GOOD, "good.bin": bad_bytes.ONE + bad_bytes.event(1) + bad_bytes.event(2, 0, 1, 1) + bad_bytes.event(0, 0, 0, 9)}
-EACH = 5  # a case in so many is run as a process too
+EACH = 8  # a case in so many is run as a process too
 
 
 def ends(name, found, line):

@@ -2,12 +2,13 @@
 import os
 import pathlib
 import shutil
-import sys
+from unittest import mock
 
 from bad_uses import GOOD
-from there import COMMAND, ROOT, folder_with, run
+from there import COMMAND, ROOT, call, folder_with, run
 
 NO_RT = "brumerola: rt is not here, and the listing program has to be built: install the Rattle toolchain, and put its bin folder into PATH"
+NOT_STARTED = "brumerola: the listing program could not be built or started"
 NOT_BUILT = "brumerola: the listing program could not be proved and built; the lines above say why"
 
 
@@ -36,7 +37,6 @@ def last_line(found):
 
 
 def look(ends):
-    count = 0
     with folder_with({"good.txt": GOOD}) as folder:
         copied(folder)
         tools = f"{folder}/tools:{os.environ['PATH']}"
@@ -46,11 +46,12 @@ def look(ends):
         script(f"{folder}/tools/rt", "exit 0")
         ends("rt builds nothing", last_line(ended(folder, tools)), NOT_BUILT)
         for name, program, line in PROGRAMS:
-            script(f"{folder}/tools/rt", "exit 0")
-            script(f"{folder}/target/bin/listing", program)
-            ends(name, last_line(ended(folder, tools)), line)
-            count += 1
-    return 3 + count
+            script(f"{folder}/listing", program)
+            with mock.patch("command.programs.BINARY", f"{folder}/listing"):
+                ends(name, call(["list", "good.txt"], folder), line)
+        with mock.patch("command.programs.BINARY", f"{folder}/none"):
+            ends("the program is gone", call(["list", "good.txt"], folder), f"{NOT_STARTED}: No such file or directory: {folder}/none")
+    return 4 + len(PROGRAMS)
 
 
 PROGRAMS = [

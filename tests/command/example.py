@@ -1,6 +1,5 @@
 """Each command on the example, as a person runs it: from the text and from the bytes, from another folder and through a link, for people and as JSON."""
 import os
-from concurrent.futures import ThreadPoolExecutor
 
 import checks
 from follow import followed
@@ -20,9 +19,18 @@ def printed(what, found):
     return found.out.decode()
 
 
-def lists(run_all):
-    texts = run_all([["list", "--plain", str(EXAMPLE)], ["list", "--plain", str(BYTES)], ["list", str(EXAMPLE)], ["list", *NAMED], ["list", str(BYTES)]])
-    plain, from_bytes, shown, named, bare = [printed(f"list {place}", found) for place, found in enumerate(texts)]
+def all_of(folder, *many):
+    """What commands print: a command is run as a process the first time that its name comes, and called after that."""
+    seen = set()
+    for args in many:
+        how = call if args[0] in seen else run
+        seen.add(args[0])
+        yield printed(" ".join(args), how(args, folder))
+
+
+def lists(folder):
+    plain, from_bytes, shown, named, bare = all_of(
+        folder, ["list", "--plain", str(EXAMPLE)], ["list", "--plain", str(BYTES)], ["list", str(EXAMPLE)], ["list", *NAMED], ["list", str(BYTES)])
     hold("the plain listing of the text", plain.encode(), PLAIN)
     hold("the plain listing of the bytes", from_bytes.encode(), PLAIN)
     hold("the listing with names taken away", of_list(shown, NAMES, list(beside(LINE, NAMES)), TASKS), PLAIN.decode())
@@ -31,22 +39,21 @@ def lists(run_all):
     hold("the events of the text", list(events_of(LINE, NAMES)), EVENTS)
 
 
-def screens(run_all):
-    texts = run_all([["list", "--json", str(EXAMPLE)], ["timeline", "--json", str(EXAMPLE)], ["check", "--json", str(EXAMPLE)], ["check", str(BYTES)]])
-    listed, drawn, checked, from_bytes = [printed(f"JSON {place}", found) for place, found in enumerate(texts)]
+def screens(folder):
+    listed, drawn, checked, from_bytes = all_of(
+        folder, ["list", "--json", str(EXAMPLE)], ["timeline", "--json", str(EXAMPLE)], ["check", "--json", str(EXAMPLE)], ["check", str(BYTES)])
     hold("the listing as JSON", of_json(listed, NAMES, LINE, TASKS), PLAIN.decode())
     hold("the timeline as JSON", of_json(drawn, NAMES, LINE, TASKS), PLAIN.decode())
     checks.example(checked, from_bytes, NAMES, TASKS, PLAIN.decode())
 
 
-def there_and_back(run_all, folder):
-    made = [["bytes", str(EXAMPLE), "-o", "a.bin"], ["text", *NAMED, "-o", "a.txt"], ["text", str(BYTES)], ["timeline", *NAMED, "-o", "a.svg"]]
-    outs = [printed(" ".join(args[:1]), found) for args, found in zip(made, run_all(made))]
+def there_and_back(folder):
+    made = ["bytes", str(EXAMPLE), "-o", "a.bin"], ["text", *NAMED, "-o", "a.txt"], ["text", str(BYTES)], ["timeline", *NAMED, "-o", "a.svg"]
+    outs = list(all_of(folder, *made, ["bytes", "a.txt", "-o", "b.bin"]))
     hold("the bytes of the text", open(f"{folder}/a.bin", "rb").read(), BYTES.read_bytes())
     hold("the text of the bytes", of_text(open(f"{folder}/a.txt").read()), (NAMES, TASKS, EVENTS))
     hold("the text of the bytes without names", of_text(outs[2])[1], TASKS)
     hold("the text of the bytes without names", of_text(outs[2])[0], [f"task{place}" for place in range(10)])
-    printed("bytes again", run(["bytes", "a.txt", "-o", "b.bin"], folder))
     hold("the bytes of the text of the bytes", open(f"{folder}/b.bin", "rb").read(), BYTES.read_bytes())
     hold("nothing else is made", sorted(os.listdir(folder)), ["a.bin", "a.svg", "a.txt", "b.bin", "link"])
 
@@ -60,19 +67,18 @@ def elsewhere(folder):
 
 
 def helps(folder):
-    for args, how in ([], run), (["list"], call), (["check"], call), (["timeline"], run), (["bytes"], call), (["text"], call):
+    for args, how in ([], run), (["list"], call), (["check"], call), (["timeline"], call), (["bytes"], call), (["text"], call):
         found = how([*args, "--help"], folder)
         shown = found.out.decode().split()
         hold(f"help of {args}", (found.status, shown[:2 + len(args)], found.err), (0, ["usage:", "brumerola", *args], ""))
 
 
 def look():
-    with folder_with({}) as folder, ThreadPoolExecutor(os.cpu_count()) as pool:
+    with folder_with({}) as folder:
         os.symlink(COMMAND, f"{folder}/link")
-        run_all = lambda many: list(pool.map(lambda args: run(args, folder), many))
-        lists(run_all)
-        screens(run_all)
-        there_and_back(run_all, folder)
+        lists(folder)
+        screens(folder)
+        there_and_back(folder)
         elsewhere(folder)
         helps(folder)
     count = checks.tables()

@@ -6,7 +6,7 @@ from collections import Counter
 
 import reasons
 from follow import TICK, followed, packed
-from made import busy_line, table_and_log
+from made import GAPS, REFUSED, busy_line, table_and_log
 from page import Page
 from scale import Scale
 from there import EXAMPLE, ROOT, call, folder_with, hold
@@ -185,6 +185,8 @@ def refused(what, page, line, part):
 def held(what, raw, names, svg, why, part):
     """One picture, of all ticks or of a part of them."""
     page, line = Page(svg), followed(raw)
+    if what == "long gaps":
+        gaps(page)
     hold(f"{what}: outside the page", page.outside()[:3], [])
     hold(f"{what}: rows", {tuple(strip.names) for strip in page.strips}, {tuple(f"{place} {name_of(place, names)}" for place in range(len(line.tasks)))})
     now = line.now()
@@ -199,18 +201,26 @@ def held(what, raw, names, svg, why, part):
 def cases():
     """A name, bytes, and names of tasks, and from when to when it is drawn where it is a part."""
     names = [words.split()[1] for words in EXAMPLE.read_text().splitlines() if words.startswith("task ")]
-    for part in (), (1200, 1800), (0, 97), (1304, 1744), (2100, 2320):
+    for part in (), (1200, 1800), (0, 97), (1304, 1744), (1000, 1044), (2100, 2320):
         yield f"the example {part}", (ROOT / "examples/line.bin").read_bytes(), names, *part
     for path in sorted((ROOT / "tests/cases/listing").glob("*.in"))[::2]:
         raw = path.read_bytes()
         if path.with_suffix(".out").read_text().startswith("task") and len(raw) < 10000:
             yield f"tests/cases/listing/{path.name}", raw, None
+    yield "refused completions", packed(*REFUSED), None
+    yield "long gaps", packed(*GAPS), None
     yield "16 tasks", packed(*busy_line(1, 3000, 16, 0.1)), None
     yield "5 tasks that are overloaded", packed(*busy_line(2, 400, 5, 0.6)), None
     yield "3 tasks for some hundred ticks", packed(*busy_line(3, 60, 3, 0.4)), None
     seed = random.Random(4)
     for number in range(20):
         yield f"random {number}", packed(*table_and_log(seed)), None
+
+
+def gaps(page):
+    """What is cut out of a long stretch is told with its length."""
+    cuts = [text.text for strip in page.strips for text in strip.texts if text.text.endswith(" cut")]
+    hold("long gaps: what is cut", (cuts, sum(len(strip.cuts) for strip in page.strips)), (["100,000 cut", "2,000,000 cut"], 2))
 
 
 def stops(raw):
