@@ -11,6 +11,9 @@ WIDE = (0, 1, 2, LIMIT - 1, LIMIT, LIMIT + 1, 2**32, 2**63, 2**64 - 1)
 REFUSED = [(1, 2, 2, 1, 2), (3, 7, 8, 1, 3)], [
     (RELEASE, 0, 0, 0), (RELEASE, 0, 0, 2), (COMPLETION, 0, 1, 2), (COMPLETION, 0, 7, 3), (RELEASE, 1, 0, 3), (COMPLETION, 0, 2, 1), (TICK, 0, 0, 5),
     (RELEASE, 0, 0, 5), (RELEASE, 0, 0, 6), (RELEASE, 0, 0, 9), (RELEASE, 2, 0, 9), (COMPLETION, 1, 9, 20), (TICK, 0, 0, LIMIT + 1)]
+# by hand: three refusals at the last tick, whose numbers have no room behind their sign
+EDGE = [(1, 2, 2, 1, 2)], [
+    (RELEASE, 0, 0, 0), (COMPLETION, 0, 1, 1), (TICK, 0, 0, 30), (COMPLETION, 0, 9, 30), (RELEASE, 2, 0, 30), (TICK, 0, 0, 29)]
 # by hand: long stretches without an event
 GAPS = [(1, 5, 10, 1, 2)], [(TICK, 0, 0, time) for time in range(0, 60, 10)] + [(RELEASE, 0, 0, 100050), (COMPLETION, 0, 1, 100052), (RELEASE, 0, 0, 2100055)]
 

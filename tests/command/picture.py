@@ -6,7 +6,7 @@ from collections import Counter
 
 import reasons
 from follow import TICK, followed, packed
-from made import GAPS, REFUSED, busy_line, table_and_log
+from made import EDGE, GAPS, REFUSED, busy_line, table_and_log
 from page import Page
 from scale import Scale
 from there import EXAMPLE, ROOT, call, folder_with, hold
@@ -208,6 +208,7 @@ def cases():
         if path.with_suffix(".out").read_text().startswith("task") and len(raw) < 10000:
             yield f"tests/cases/listing/{path.name}", raw, None
     yield "refused completions", packed(*REFUSED), None
+    yield "refused at the edge", packed(*EDGE), None
     yield "long gaps", packed(*GAPS), None
     yield "16 tasks", packed(*busy_line(1, 3000, 16, 0.1)), None
     yield "5 tasks that are overloaded", packed(*busy_line(2, 400, 5, 0.6)), None
