@@ -1,4 +1,4 @@
-"""Byte files that are wrong: a name, the command's words, the bytes, and the line that is told. The bytes stand in in.bin, the text of a.txt in a.txt."""
+"""Byte files that are wrong: a name, the command's words, the bytes, and the line that is told. The bytes stand in in.bin, and two texts in a.txt and c.txt."""
 from bad_texts import TASK
 
 RECORD = b"TK" + b"\1\0\0\0" + b"\2\0\0\0" + b"\3\0\0\0" + b"\0\1"
@@ -56,6 +56,8 @@ LOGS = [
 NAMES = [
     ("names of another table", "list in.bin --names a.txt", b"\1" + task(1, 2, 4, 0, 1),
      "a.txt: its table is not that of in.bin, so its names would be wrong; give the text that the bytes were made from"),
+    ("names of a table with another K", "list in.bin --names c.txt", b"\1" + task(1, 2, 3, 1, 3),
+     "c.txt: its table is not that of in.bin, so its names would be wrong; give the text that the bytes were made from"),
     ("names of a shorter table", "text in.bin --names a.txt -o out.txt", b"\2" + RECORD * 2,
      "a.txt: its table is not that of in.bin, so its names would be wrong; give the text that the bytes were made from"),
     ("names from bytes", "check in.bin --names in.bin", ONE,
@@ -65,5 +67,5 @@ NAMES = [
     ("names for the plain listing", "list in.bin --plain --names a.txt", ONE, "brumerola list: --plain shows no names, so leave --names out"),
 ]
 
-FILES = {"a.txt": TASK}
+FILES = {"a.txt": TASK, "c.txt": "task a C 1 D 2 T 3 m 1 K 2\n"}
 CASES = TABLES + LOGS + NAMES

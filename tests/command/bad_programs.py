@@ -47,11 +47,17 @@ def look(ends):
         ends("rt builds nothing", last_line(ended(folder, tools)), NOT_BUILT)
         for name, program, line in PROGRAMS:
             script(f"{folder}/listing", program)
-            with mock.patch("command.programs.BINARY", f"{folder}/listing"):
-                ends(name, call(["list", "good.txt"], folder), line)
-        with mock.patch("command.programs.BINARY", f"{folder}/none"):
-            ends("the program is gone", call(["list", "good.txt"], folder), f"{NOT_STARTED}: No such file or directory: {folder}/none")
+            ends(name, called(f"{folder}/listing", folder), line)
+        ends("the program is gone", called(f"{folder}/none", folder), f"{NOT_STARTED}: No such file or directory: {folder}/none")
     return 4 + len(PROGRAMS)
+
+
+def called(program, folder):
+    """The command, called with this program in the place of the proved one."""
+    from command import programs
+
+    with mock.patch.object(programs, "BINARY", program), mock.patch.object(programs, "listing", programs.listing.__wrapped__):
+        return call(["list", "good.txt"], folder)
 
 
 PROGRAMS = [

@@ -203,7 +203,7 @@ def cases():
     names = [words.split()[1] for words in EXAMPLE.read_text().splitlines() if words.startswith("task ")]
     for part in (), (1200, 1800), (0, 97), (1304, 1744), (1000, 1044), (2100, 2320):
         yield f"the example {part}", (ROOT / "examples/line.bin").read_bytes(), names, *part
-    for path in sorted((ROOT / "tests/cases/listing").glob("*.in"))[::2]:
+    for path in sorted((ROOT / "tests/cases/listing").glob("*.in"))[::3]:
         raw = path.read_bytes()
         if path.with_suffix(".out").read_text().startswith("task") and len(raw) < 10000:
             yield f"tests/cases/listing/{path.name}", raw, None
@@ -214,7 +214,7 @@ def cases():
     yield "5 tasks that are overloaded", packed(*busy_line(2, 400, 5, 0.6)), None
     yield "3 tasks for some hundred ticks", packed(*busy_line(3, 60, 3, 0.4)), None
     seed = random.Random(4)
-    for number in range(20):
+    for number in range(12):
         yield f"random {number}", packed(*table_and_log(seed)), None
 
 

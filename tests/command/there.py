@@ -1,5 +1,6 @@
 """Where the command is, how it is run as a process or called in this one, and the list of what differs."""
 import contextlib
+import functools
 import os
 import pathlib
 import subprocess
@@ -90,10 +91,10 @@ def inside(folder):
 
 
 def ready():
-    """Builds the program where it has to be, once; calls in this process do not ask again, and make the words of the command line once."""
+    """Builds the program where it has to be, once; calls in this process do not ask again, list an input once, and make the words of a command line once."""
     from command import main, programs
 
     programs.built()
     programs.built = lambda: None
-    words = main.parser()
-    main.parser = lambda: words
+    programs.listing = functools.lru_cache(None)(programs.listing)
+    main.parser = functools.lru_cache(None)(main.parser)
