@@ -44,6 +44,7 @@ WORDS = [
     ("a line of another kind", TASK + "relase a at 2", f"in.txt:2: no line begins with 'relase'; {BEGIN}"),
     ("a capital letter", "Task a C 1 D 2 T 3 m 0 K 1", f"in.txt:1: no line begins with 'Task'; {BEGIN}"),
     ("a comment of another language", TASK + "// a note", f"in.txt:2: no line begins with '//'; {BEGIN}"),
+    ("a word of 40 letters", "x" * 40, f"in.txt:1: no line begins with '{'x' * 40}'; {BEGIN}"),
     ("a very long word", "x" * 50, f"in.txt:1: no line begins with '{'x' * 40}..'; {BEGIN}"),
     ("an escape sequence", "\x1b[31mtask", f"in.txt:1: a character that is no text, '\\x1b', {STRAY}"),
     ("a word too many in a task", "task a C 1 D 2 T 3 m 0 K 1 hard", f"in.txt:1: 'hard' is a word too many; {SHAPE} ends before it"),
