@@ -110,6 +110,7 @@ RULES = [
     table("C is 0", "C 0 D 2 T 3 m 0 K 1", 3, "C is 0, and it has to be at least 1"),
     table("D is smaller than C", "C 9 D 7 T 8 m 1 K 3", 3, "D is 7 and C is 9, and D has to be at least C"),
     table("T is smaller than D", "C 1 D 9 T 8 m 1 K 3", 3, "T is 8 and D is 9, and T has to be at least D"),
+    table("T is smaller than D, which is C", "C 9 D 9 T 8 m 1 K 3", 3, "T is 8 and D is 9, and T has to be at least D"),
     table("T is past its limit", "C 1 D 2 T 1000001 m 1 K 3", 3, "T is 1000001, and it has to be at most 1000000"),
     table("all times are 0", "C 0 D 0 T 0 m 0 K 1", 3, "C is 0, and it has to be at least 1"),
     table("D is smaller than C and T than D", "C 9 D 8 T 7 m 0 K 1", 3, "D is 8 and C is 9, and D has to be at least C"),
