@@ -14,8 +14,9 @@ REFUSED = [(1, 2, 2, 1, 2), (3, 7, 8, 1, 3)], [
 # by hand: three refusals at the last tick, whose numbers have no room behind their sign
 EDGE = [(1, 2, 2, 1, 2)], [
     (RELEASE, 0, 0, 0), (COMPLETION, 0, 1, 1), (TICK, 0, 0, 30), (COMPLETION, 0, 9, 30), (RELEASE, 2, 0, 30), (TICK, 0, 0, 29)]
-# by hand: long stretches without an event
-GAPS = [(1, 5, 10, 1, 2)], [(TICK, 0, 0, time) for time in range(0, 60, 10)] + [(RELEASE, 0, 0, 100050), (COMPLETION, 0, 1, 100052), (RELEASE, 0, 0, 2100055)]
+# by hand: stretches of 1,000, 200, 100,000 and 2,000,000 ticks without an event, among steps of 10
+GAPS = [(1, 5, 10, 1, 2)], [(TICK, 0, 0, time) for time in (0, 10, 20, 30, 40, 50, 1050, 1250)] + [
+    (RELEASE, 0, 0, 101250), (COMPLETION, 0, 1, 101252), (RELEASE, 0, 0, 2101255)]
 
 
 def lawful(seed):
