@@ -13,7 +13,7 @@ use Rattle.table_rules.specs.Judging.{judged}
 use Rattle.bound_demand.specs.declared.Load.{Load}
 use Rattle.bound_demand.specs.Above.{taskAt, isAbove}
 use Rattle.bound_demand.specs.Demand.{costOf, spacingOf, partOf, partAt, demand}
-use Rattle.bound_demand.specs.Load.{noPart, partIn, loadDemand, Ready}
+use Rattle.bound_demand.specs.Load.{partIn, loadDemand, Ready}
 use Rattle.bound_demand.proofs.Obeyed.{spacing-some}
 
 part-mono : (c s a b : ℕ) → 1 ≤ s → a ≤ b → partOf c s a ≤ partOf c s b
@@ -23,8 +23,8 @@ pub load-mono : (l : Load) → Ready l → (a b : ℕ) → a ≤ b → loadDeman
 unfolding loadDemand
 load-mono l y a b p =
     add-le-add (le-refl (l .own))
-    (total-mono (partIn (l .parts) a) (partIn (l .parts) b) (l .count)
-    (λ i h. part-mono (getD (l .parts) i noPart .cost) (getD (l .parts) i noPart .spacing) a b (y .spaced i h) p))
+    (total-mono (partIn (l .costs) (l .spacings) a) (partIn (l .costs) (l .spacings) b) (l .count)
+    (λ i h. part-mono (getD (l .costs) i 0) (getD (l .spacings) i 0) a b (y .spaced i h) p))
 
 pub load-own : (l : Load) (r : ℕ) → l .own ≤ loadDemand l r
 unfolding loadDemand

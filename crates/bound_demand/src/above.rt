@@ -1,6 +1,5 @@
 // The tasks above a task, gathered for the search: the order, the cost and the spacing are looked at here and nowhere else.
 use super::Load;
-use super::Part;
 use table_rules::MOST_TASKS;
 use table_rules::PLACES;
 use table_rules::Table;
@@ -10,7 +9,7 @@ ghost use Prim.Native.Nat.{_<_};
 ghost use Rattle.table_rules.specs.Limits.{placeCount};
 ghost use Rattle.bound_demand.specs.Above.{isAbove};
 ghost use Rattle.bound_demand.specs.Demand.{costOf, spacingOf};
-ghost use Rattle.bound_demand.specs.Load.{partFor, emptyLoad, loadAt};
+ghost use Rattle.bound_demand.specs.Load.{emptyLoad, loadAt};
 
 fn cost(task: Task) -> u32
     ensures { λ r. ⌜ r ≡ costOf task ⌝ }
@@ -40,29 +39,16 @@ fn is_above(table: Table, i: usize, k: usize) -> bool
     false
 }
 
-fn part(task: Task) -> Part
-    ensures { λ r. ⌜ r ≡ partFor task ⌝ }
-{
-    let cost = cost(task);
-    let spacing = spacing(task);
-    Part {
-        cost: cost,
-        spacing: spacing,
-    }
-}
-
 fn empty(own: u32) -> Load
     ensures { λ r. ⌜ r ≡ emptyLoad own ⌝ }
 {
-    let none = Part {
-        cost: 0,
-        spacing: 0,
-    };
-    let parts = [none; PLACES];
+    let costs = [0u32; PLACES];
+    let spacings = [0u32; PLACES];
     Load {
         own: own,
         count: 0,
-        parts: parts,
+        costs: costs,
+        spacings: spacings,
     }
 }
 
@@ -83,7 +69,11 @@ pub fn load_of(table: Table, k: usize) -> Load
     let mut i: usize = 0;
     while i < count {
         if is_above(table, i, k) {
-            load.parts[n] = part(table.tasks[i]);
+            let task = table.tasks[i];
+            let cost = cost(task);
+            let spacing = spacing(task);
+            load.costs[n] = cost;
+            load.spacings[n] = spacing;
             n += 1;
         }
         i += 1;

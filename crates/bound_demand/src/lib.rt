@@ -3,15 +3,10 @@ pub mod above;
 
 use table_rules::PLACES;
 
-// What a task above takes in a stretch: its cost for each spacing that the stretch begins.
-pub struct Part {
-    pub cost: u32,
-    pub spacing: u32,
-}
-
-// All that the search goes by: the task's own cost, and the parts of the tasks above it.
+// All that the search goes by: the task's own cost, and a cost and a spacing for each task above it. Two rows, so that each round can be lent both.
 pub struct Load {
     pub own: u32,
     pub count: usize,
-    pub parts: [Part; PLACES],
+    pub costs: [u32; PLACES],
+    pub spacings: [u32; PLACES],
 }

@@ -7,7 +7,7 @@ use native.Mathlib.Omega.{arith}
 use borrow.Author.Needs.{needs}
 use borrow.Author.Tests.{lt-ltb, le-ltb, le-leb}
 use Rattle.laws.specs.Sums.{total}
-use Rattle.bound_demand.specs.Load.{partsTo, loadAt}
+use Rattle.bound_demand.specs.Load.{rowTo, loadAt}
 use Rattle.bound_demand.proofs.Gathering.{Loaded, count-few, loaded-skip, loaded-more, loaded-all}
 use Rattle.bound_demand.proofs.above.load_of.Statement.{statement}
 use Rattle.bound_demand.proofs.above.load_of.Tie as tie
@@ -45,7 +45,7 @@ empty-requires-3 : tie.Need-empty-requires-3 Inv-loop μ-loop
 empty-requires-3 c κs = search needs
 
 loop-holds : tie.Need-loop-holds Inv-loop μ-loop
-unfolding partsTo total
+unfolding rowTo total
 loop-holds c = (omega arith, record { count = refl; load = rw (sym (c .before .cost .ensures)) (c .empty3 .ensures) })
 
 -- fewer parts than positions passed
@@ -57,23 +57,32 @@ below c =
 is-above-requires : tie.Need-is-above-requires Inv-loop μ-loop
 is-above-requires c κs = omega arith
 
-mul-part : tie.Need-mul-part Inv-loop μ-loop
-mul-part c = omega arith
+mul-task : tie.Need-mul-task Inv-loop μ-loop
+mul-task c = omega arith
 
-element-copy-out-part : tie.Need-element-copy-out-part Inv-loop μ-loop
-element-copy-out-part c = omega arith
+element-copy-out-task : tie.Need-element-copy-out-task Inv-loop μ-loop
+element-copy-out-task c = omega arith
 
-part-requires : tie.Need-part-requires Inv-loop μ-loop
-part-requires c κs = search needs
+cost-requires-2 : tie.Need-cost-requires-2 Inv-loop μ-loop
+cost-requires-2 c κs = search needs
 
-mul-t23 : tie.Need-mul-t23 Inv-loop μ-loop
-mul-t23 c = omega (arith, below (c .before .before .before .before))
+spacing-requires : tie.Need-spacing-requires Inv-loop μ-loop
+spacing-requires c κs = search needs
 
-element-set-from-load : tie.Need-element-set-from-load Inv-loop μ-loop
-element-set-from-load c = omega (arith, below (c .before .before .before .before))
+mul-load : tie.Need-mul-load Inv-loop μ-loop
+mul-load c = omega (arith, below (c .before .before .before .before .before))
+
+element-write-load : tie.Need-element-write-load Inv-loop μ-loop
+element-write-load c = omega (arith, below (c .before .before .before .before .before))
+
+mul-load-2 : tie.Need-mul-load-2 Inv-loop μ-loop
+mul-load-2 c = omega (arith, below (c .before .before .before .before .before))
+
+element-write-load-2 : tie.Need-element-write-load-2 Inv-loop μ-loop
+element-write-load-2 c = omega (arith, below (c .before .before .before .before .before))
 
 add-n : tie.Need-add-n Inv-loop μ-loop
-add-n c = omega (arith, below (c .before .before .before .before))
+add-n c = omega (arith, below (c .before .before .before .before .before))
 
 add-i : tie.Need-add-i Inv-loop μ-loop
 add-i c = omega arith
@@ -90,7 +99,9 @@ loop-again c =
     let a = sym (c .before .is-above .ensures) in (
       omega arith,
       ⊎-elim
-          (λ w. rw (w .3, w .4, w .2 .ensures, add-one (l .i)) (loaded-more t k (l .load) (l .n) (l .i) (l .inv .1) (a ∙ w .0 .taken)))
+          (λ w.
+          rw (w .4, w .5, add-one (l .i))
+          (loaded-more t k (l .load) (l .n) (l .i) (w .2 .result) (w .3 .result) (l .inv .1) (a ∙ w .0 .taken) (w .2 .ensures) (w .3 .ensures)))
           (λ w. rw (w .1, w .2, add-one (l .i)) (loaded-skip t k (l .load) (l .n) (l .i) (l .inv .1) (a ∙ w .0 .left)))
           (c .if3 .came),
     )
@@ -118,11 +129,14 @@ load-of-spec =
     empty-requires-3
     loop-holds
     is-above-requires
-    mul-part
-    element-copy-out-part
-    part-requires
-    mul-t23
-    element-set-from-load
+    mul-task
+    element-copy-out-task
+    cost-requires-2
+    spacing-requires
+    mul-load
+    element-write-load
+    mul-load-2
+    element-write-load-2
     add-n
     add-i
     loop-less

@@ -10,14 +10,11 @@ use Rattle.bound_search.proofs.search.demand.Statement.{statement}
 use Rattle.bound_search.proofs.search.demand.Tie as tie
 
 abbrev Inv-loop : tie.InvT-loop
-Inv-loop r load own count sum₀ i₀ sum i =
-    (i ≤ count) × ((sum ≡ total (partIn (load .parts) r) i) × (sum ≤ i * (1000000 * 4294967295)))
+Inv-loop own count costs spacings r own' sum₀ i₀ sum i =
+    (i ≤ count) × ((sum ≡ total (partIn costs spacings r) i) × (sum ≤ i * (1000000 * 4294967295)))
 
 abbrev μ-loop : tie.MeasureT-loop
-μ-loop r load own count sum₀ i₀ sum i = count - i
-
-cast-own : tie.Need-cast-own Inv-loop μ-loop
-cast-own c = search needs
+μ-loop own count costs spacings r own' sum₀ i₀ sum i = count - i
 
 loop-holds : tie.Need-loop-holds Inv-loop μ-loop
 unfolding total
@@ -29,15 +26,21 @@ mul-part-of c = omega (arith, c .before .before .pre .0 .few)
 element-copy-out-part-of : tie.Need-element-copy-out-part-of Inv-loop μ-loop
 element-copy-out-part-of c = omega (arith, c .before .before .pre .0 .few)
 
+mul-part-of-2 : tie.Need-mul-part-of-2 Inv-loop μ-loop
+mul-part-of-2 c = omega (arith, c .before .before .before .pre .0 .few)
+
+element-copy-out-part-of-2 : tie.Need-element-copy-out-part-of-2 Inv-loop μ-loop
+element-copy-out-part-of-2 c = omega (arith, c .before .before .before .pre .0 .few)
+
 part-of-requires : tie.Need-part-of-requires Inv-loop μ-loop
 part-of-requires c κs =
-    let s = c .before .before .before in
-    (s .pre .0 .spaced (c .before .before .loop .i) (c .before .loop-test .taken), s .pre .1)
+    let s = c .before .before .before .before in
+    (s .pre .0 .spaced (c .before .before .before .loop .i) (c .before .before .loop-test .taken), s .pre .1)
 
 add-sum : tie.Need-add-sum Inv-loop μ-loop
 add-sum c =
-    let l = c .before .before .before .loop in
-    omega (arith, c .part-of .ensures .1, l .inv .1 .1, c .before .before .before .before .pre .0 .few)
+    let l = c .before .before .before .before .loop in
+    omega (arith, c .part-of .ensures .1, l .inv .1 .1, c .before .before .before .before .before .pre .0 .few)
 
 add-i : tie.Need-add-i Inv-loop μ-loop
 add-i c = omega arith
@@ -48,7 +51,7 @@ loop-less c = omega arith
 loop-again : tie.Need-loop-again Inv-loop μ-loop
 unfolding total
 loop-again c =
-    let l = c .before .before .before .loop in
+    let l = c .before .before .before .before .loop in
     (omega arith, (rw (add-one, c .part-of .ensures .0, l .inv .1 .0), omega (arith, c .part-of .ensures .1, l .inv .1 .1)))
 
 add-result : tie.Need-add-result Inv-loop μ-loop
@@ -58,7 +61,7 @@ returns : tie.Need-returns Inv-loop μ-loop
 unfolding loadDemand
 returns c =
     let l = c .before .loop in
-    let e : l .i ≡ c .before .before .args .t1 .count = omega arith in
+    let e : l .i ≡ c .before .before .args .count = omega arith in
     rw (l .inv .1 .0, e)
 
 pub demand-spec : {M : Type 1} → statement M
@@ -67,10 +70,11 @@ demand-spec =
     (tie.spec
     Inv-loop
     μ-loop
-    cast-own
     loop-holds
     mul-part-of
     element-copy-out-part-of
+    mul-part-of-2
+    element-copy-out-part-of-2
     part-of-requires
     add-sum
     add-i

@@ -9,12 +9,6 @@ use Rattle.bound_demand.specs.Demand.{partOf}
 use Rattle.bound_search.proofs.search.part_of.Statement.{statement}
 use Rattle.bound_search.proofs.search.part_of.Tie as tie
 
-cast-cost : tie.Need-cast-cost
-cast-cost c = search needs
-
-cast-spacing : tie.Need-cast-spacing
-cast-spacing c = search needs
-
 sub-result : tie.Need-sub-result
 sub-result c = search needs
 
@@ -24,17 +18,16 @@ add-result c = search needs
 div-result : tie.Need-div-result
 div-result c = search needs
 
-small : (c : tie.Start) → partOf (c .args .part .cost) (c .args .part .spacing) (c .args .r) ≤ 1000000 * 4294967295
+small : (c : tie.Start) → partOf (c .args .cost) (c .args .spacing) (c .args .r) ≤ 1000000 * 4294967295
 small c =
-    let p : c .args .part .cost ≤ 4294967295 = omega arith in
-    mul-le-mul (le-trans (ceiling-small (c .args .r) (c .args .part .spacing) (c .pre .0)) (c .pre .1)) p
+    let p : c .args .cost ≤ 4294967295 = omega arith in
+    mul-le-mul (le-trans (ceiling-small (c .args .r) (c .args .spacing) (c .pre .0)) (c .pre .1)) p
 
 mul-result : tie.Need-mul-result
-mul-result c = omega (arith, small (c .before .before))
+mul-result c = omega (arith, small c)
 
 returns : tie.Need-returns
-returns c = (refl, small (c .before .before))
+returns c = (refl, small c)
 
 pub part-of-spec : {M : Type 1} → statement M
-part-of-spec =
-    tie.close (tie.spec cast-cost cast-spacing sub-result add-result div-result mul-result returns)
+part-of-spec = tie.close (tie.spec sub-result add-result div-result mul-result returns)
