@@ -15,6 +15,9 @@ taskAt t i = getD (t .tasks) i noTask
 abbrev pub TaskAbove : Table → ℕ → ℕ → Type 0
 TaskAbove t i k = Higher (taskAt t i) i (taskAt t k) k
 
--- the same as a test
+-- the same as a test: task a, at position i, above task b, at position k
+abbrev pub higher : Task → ℕ → Task → ℕ → Bool
+higher a i b k = cond (ltb (a .d) (b .d)) true (cond (eqb (a .d) (b .d)) (ltb i k) false)
+
 abbrev pub isAbove : Table → ℕ → ℕ → Bool
-isAbove t i k = cond (ltb (taskAt t i .d) (taskAt t k .d)) true (cond (eqb (taskAt t i .d) (taskAt t k .d)) (ltb i k) false)
+isAbove t i k = higher (taskAt t i) i (taskAt t k) k

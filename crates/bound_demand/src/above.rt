@@ -7,7 +7,7 @@ use table_rules::Task;
 ghost use mathlib.Core.Path.{_≡_};
 ghost use Prim.Native.Nat.{_<_};
 ghost use Rattle.table_rules.specs.Limits.{placeCount};
-ghost use Rattle.bound_demand.specs.Above.{isAbove};
+ghost use Rattle.bound_demand.specs.Above.{higher};
 ghost use Rattle.bound_demand.specs.Demand.{costOf, spacingOf};
 ghost use Rattle.bound_demand.specs.Load.{emptyLoad, loadAt};
 
@@ -24,12 +24,11 @@ fn spacing(task: Task) -> u32
 }
 
 // Smaller D, or equal D and smaller position.
-fn is_above(table: Table, i: usize, k: usize) -> bool
-    requires { ⌜ (i < placeCount) × (k < placeCount) ⌝ }
-    ensures { λ r. ⌜ r ≡ isAbove table i k ⌝ }
+fn is_above(a: Task, i: usize, b: Task, k: usize) -> bool
+    ensures { λ r. ⌜ r ≡ higher a i b k ⌝ }
 {
-    let upper = table.tasks[i].d;
-    let lower = table.tasks[k].d;
+    let upper = a.d;
+    let lower = b.d;
     if upper < lower {
         return true;
     }
@@ -63,13 +62,14 @@ pub fn load_of(table: Table, k: usize) -> Load
     if count <= k {
         return empty(0);
     }
-    let own = cost(table.tasks[k]);
+    let own_task = table.tasks[k];
+    let own = cost(own_task);
     let mut load = empty(own);
     let mut n: usize = 0;
     let mut i: usize = 0;
     while i < count {
-        if is_above(table, i, k) {
-            let task = table.tasks[i];
+        let task = table.tasks[i];
+        if is_above(task, i, own_task, k) {
             let cost = cost(task);
             let spacing = spacing(task);
             load.costs[n] = cost;

@@ -4,18 +4,6 @@ use borrow.Author.Tests.{lt-ltb, le-ltb, eq-eqb, ne-eqb}
 use Rattle.bound_demand.proofs.above.is_above.Statement.{statement}
 use Rattle.bound_demand.proofs.above.is_above.Tie as tie
 
-mul-upper : tie.Need-mul-upper
-mul-upper c = search needs
-
-element-copy-out-upper : tie.Need-element-copy-out-upper
-element-copy-out-upper c = search needs
-
-mul-lower : tie.Need-mul-lower
-mul-lower c = search needs
-
-element-copy-out-lower : tie.Need-element-copy-out-lower
-element-copy-out-lower c = search needs
-
 returns : tie.Need-returns
 returns c = rw (lt-ltb _ _ (c .if1 .taken))
 
@@ -29,10 +17,6 @@ pub is-above-spec : {M : Type 1} → statement M
 is-above-spec =
     tie.close
     (tie.spec
-    mul-upper
-    element-copy-out-upper
-    mul-lower
-    element-copy-out-lower
     returns
     returns-2
     returns-3)

@@ -13,10 +13,10 @@ use Rattle.bound_demand.proofs.above.load_of.Statement.{statement}
 use Rattle.bound_demand.proofs.above.load_of.Tie as tie
 
 abbrev Inv-loop : tie.InvT-loop
-Inv-loop k table count own load₀ n₀ i₀ load n i = (i ≤ count) × Loaded table k load n i
+Inv-loop k table count own-task own load₀ n₀ i₀ load n i = (i ≤ count) × Loaded table k load n i
 
 abbrev μ-loop : tie.MeasureT-loop
-μ-loop k table count own load₀ n₀ i₀ load n i = count - i
+μ-loop k table count own-task own load₀ n₀ i₀ load n i = count - i
 
 empty-requires : tie.Need-empty-requires Inv-loop μ-loop
 empty-requires c κs = search needs
@@ -32,11 +32,11 @@ returns-2 : tie.Need-returns-2 Inv-loop μ-loop
 unfolding loadAt
 returns-2 c = rw (le-ltb _ _ (c .before .before .if1 .left), le-leb _ _ (c .before .if2 .taken)) (c .empty2 .ensures)
 
-mul-cost : tie.Need-mul-cost Inv-loop μ-loop
-mul-cost c = search needs
+mul-own-task : tie.Need-mul-own-task Inv-loop μ-loop
+mul-own-task c = search needs
 
-element-copy-out-cost : tie.Need-element-copy-out-cost Inv-loop μ-loop
-element-copy-out-cost c = search needs
+element-copy-out-own-task : tie.Need-element-copy-out-own-task Inv-loop μ-loop
+element-copy-out-own-task c = search needs
 
 cost-requires : tie.Need-cost-requires Inv-loop μ-loop
 cost-requires c κs = search needs
@@ -54,14 +54,14 @@ below c =
     let s = c .before .before .before .before .before .before .before in
     rw (c .before .loop .inv .1 .count) (count-few (s .args .t1) (s .args .k) (c .before .loop .i))
 
-is-above-requires : tie.Need-is-above-requires Inv-loop μ-loop
-is-above-requires c κs = omega arith
-
 mul-task : tie.Need-mul-task Inv-loop μ-loop
 mul-task c = omega arith
 
 element-copy-out-task : tie.Need-element-copy-out-task Inv-loop μ-loop
 element-copy-out-task c = omega arith
+
+is-above-requires : tie.Need-is-above-requires Inv-loop μ-loop
+is-above-requires c κs = search needs
 
 cost-requires-2 : tie.Need-cost-requires-2 Inv-loop μ-loop
 cost-requires-2 c κs = search needs
@@ -92,16 +92,16 @@ loop-less c = omega arith
 
 loop-again : tie.Need-loop-again Inv-loop μ-loop
 loop-again c =
-    let l = c .before .before .before .loop in
-    let s = c .before .before .before .before .before .before .before .before .before in
+    let l = c .before .before .before .before .loop in
+    let s = c .before .before .before .before .before .before .before .before .before .before in
     let t = s .args .t1 in
     let k = s .args .k in
     let a = sym (c .before .is-above .ensures) in (
       omega arith,
       ⊎-elim
           (λ w.
-          rw (w .4, w .5, add-one (l .i))
-          (loaded-more t k (l .load) (l .n) (l .i) (w .2 .result) (w .3 .result) (l .inv .1) (a ∙ w .0 .taken) (w .2 .ensures) (w .3 .ensures)))
+          rw (w .3, w .4, add-one (l .i))
+          (loaded-more t k (l .load) (l .n) (l .i) (w .1 .result) (w .2 .result) (l .inv .1) (a ∙ w .0 .taken) (w .1 .ensures) (w .2 .ensures)))
           (λ w. rw (w .1, w .2, add-one (l .i)) (loaded-skip t k (l .load) (l .n) (l .i) (l .inv .1) (a ∙ w .0 .left)))
           (c .if3 .came),
     )
@@ -123,14 +123,14 @@ load-of-spec =
     returns
     empty-requires-2
     returns-2
-    mul-cost
-    element-copy-out-cost
+    mul-own-task
+    element-copy-out-own-task
     cost-requires
     empty-requires-3
     loop-holds
-    is-above-requires
     mul-task
     element-copy-out-task
+    is-above-requires
     cost-requires-2
     spacing-requires
     mul-load
