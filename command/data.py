@@ -38,7 +38,8 @@ def events(given):
 def listing(given):
     stop = given.listing.stop
     last = [{"position": place, "name": name, **ends._asdict()} for place, (name, ends) in enumerate(zip(given.names, given.listing.last))]
-    return {"tasks": tasks(given), "events": events(given), "stop": stop and {"refused": stop.refusal, "offset": stop.offset, "why": STOP[stop.refusal]}, "ends": last}
+    stopped = stop and {"refused": stop.refusal, "offset": stop.offset, "why": STOP[stop.refusal]}
+    return {"tasks": tasks(given), "events": events(given), "stop": stopped, "ends": last}
 
 
 def checked(given):

@@ -70,7 +70,7 @@ def follows(file, raw):
     """What follows the table has to begin as a log does: else the count of tasks is likely wrong, and the table another."""
     at = records.events_from(raw)
     if not b"EV".startswith(raw[at : at + 2]):
-        found = f"the first byte says {counted(raw[0], 'task')}, and byte {at}, behind them, begins no event record (45 56)"
+        found = f"the first byte says {counted(raw[0], 'task')}, and byte {at}, where the log has to begin, begins no event record (45 56)"
         raise Wrong(f"{file}: {found}; look whether the count of tasks is right")
 
 

@@ -98,14 +98,13 @@ class History:
         self.choice = self.chosen(number, answer)
 
     def chosen(self, number, answer):
-        """The open job that the answer names, once its class is the one printed."""
-        if answer.run is None:
-            if any(course.open for course in self.courses):
-                raise differs(f"event {number} is answered idle, and a job is open")
-            return None
-        job = self.courses[answer.run].open if answer.run < len(self.courses) else None
-        if job is None or job.cls != answer.cls:
-            raise differs(f"event {number} is answered run {answer.run} class {answer.cls}, and the job there is another")
+        """The job that the answer names: the first of the open ones by class, D and position, with the class that was printed (Rules, "Choice")."""
+        open_jobs = [course.open for course in self.courses if course.open]
+        job = min(open_jobs, key=lambda job: (job.cls, self.given.tasks[job.task].D, job.task), default=None)
+        if (answer.run, answer.cls) != (job.task if job else None, job.cls if job else None):
+            said = "idle" if answer.run is None else f"run {answer.run} class {answer.cls}"
+            first = f"job {job.number} of task {job.task} in class {job.cls} is first" if job else "no job is open"
+            raise differs(f"event {number} is answered {said}, and {first}")
         return job
 
     def hold_last(self):

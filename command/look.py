@@ -14,7 +14,8 @@ text{font:11px 'DejaVu Sans',Verdana,Arial,sans-serif;fill:#222}
 .c0{fill:#16325c}.c1{fill:#d98a1f}.c2{fill:#efbf73}.c3{fill:#fbe8c8}.c0,.c1,.c2,.c3{stroke:#16325c;stroke-width:.7}
 .late{fill:url(#late);stroke:#a00000;stroke-width:.7}
 .up{stroke:#111;stroke-width:1.3;fill:none}.down{stroke:#777;stroke-width:1.1;fill:none}
-.met{stroke:#0a6b2d;stroke-width:1.8;fill:none}.cross{stroke:#c00000;stroke-width:2.6;fill:none}.halo{stroke:#fff;stroke-width:5;fill:none}.ring{stroke:#c00000;stroke-width:2;fill:none}.used{fill:#111;stroke:#fff;stroke-width:.8}
+.met{stroke:#0a6b2d;stroke-width:1.8;fill:none}.cross{stroke:#c00000;stroke-width:2.6;fill:none}
+.halo{stroke:#fff;stroke-width:5;fill:none}.ring{stroke:#c00000;stroke-width:2;fill:none}.used{fill:#111;stroke:#fff;stroke-width:.8}
 .refused{fill:#fff;stroke:#a00000;stroke-width:1.3}.cut{fill:url(#cut);stroke:none}.end{stroke:#222;stroke-width:1;stroke-dasharray:5 3}
 """
 PATTERNS = (

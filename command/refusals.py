@@ -30,7 +30,7 @@ def of_table(number, place, raw):
         return "there are no bytes, and the first has to say how many tasks follow"
     if not 1 <= raw[0] <= 16:
         return f"the first byte says {counted(raw[0], 'task')}, and 1 to 16 are needed"
-    return f"the first byte says {counted(raw[0], 'task')}, which take {16 * raw[0]} bytes, and {len(raw) - 1} follow"
+    return f"the first byte says {counted(raw[0], 'task')}, so {16 * raw[0]} bytes have to follow, and {len(raw) - 1} do"
 
 
 def of_task(number, task):

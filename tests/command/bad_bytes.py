@@ -17,9 +17,9 @@ def event(kind, place=0, job=0, time=0):
 TABLES = [
     ("no tasks", "list in.bin", b"\0", "in.bin: table refused 1 at 0: the first byte says 0 tasks, and 1 to 16 are needed"),
     ("17 tasks", "list in.bin", b"\x11" + RECORD * 17, "in.bin: table refused 1 at 0: the first byte says 17 tasks, and 1 to 16 are needed"),
-    ("a table that is cut", "check in.bin", ONE[:-1], "in.bin: table refused 1 at 0: the first byte says 1 task, which take 16 bytes, and 15 follow"),
+    ("a table that is cut", "check in.bin", ONE[:-1], "in.bin: table refused 1 at 0: the first byte says 1 task, so 16 bytes have to follow, and 15 do"),
     ("two tasks, and one is there", "list --json in.bin", b"\2" + RECORD,
-     "in.bin: table refused 1 at 0: the first byte says 2 tasks, which take 32 bytes, and 16 follow"),
+     "in.bin: table refused 1 at 0: the first byte says 2 tasks, so 32 bytes have to follow, and 16 do"),
     ("no mark", "timeline in.bin -o out.svg", b"\1tk" + RECORD[2:],
      "in.bin: table refused 2 at 0: byte 1 begins no table record: it and the next have to be 54 4B"),
     ("no second mark", "text in.bin -o out.txt", b"\2" + RECORD + b"TX" + RECORD[2:],
@@ -31,7 +31,7 @@ TABLES = [
     ("a hard task with K 9", "text in.bin", b"\2" + RECORD + task(1, 2, 3, 0, 9),
      "in.bin: table refused 4 at 1: m is 0 and K is 9, and a hard task, with m 0, has to have K 1"),
     ("a table of two tasks whose count says one", "check in.bin", b"\1" + RECORD * 2,
-     "in.bin: the first byte says 1 task, and byte 17, behind them, begins no event record (45 56); look whether the count of tasks is right"),
+     "in.bin: the first byte says 1 task, and byte 17, where the log has to begin, begins no event record (45 56); look whether the count of tasks is right"),
     ("junk with zero bytes", "list in.bin", b"PK\3\4\x14\0\0\0",
      "in.bin:1: a character that is no text, '\\x03', stands here; take it out, and save the file as UTF-8 text"),
 ]
