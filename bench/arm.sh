@@ -31,6 +31,9 @@ END
     chmod +x "$kit/toolchain/bin/clang"
 }
 
+# as_text: a module as LLVM's text, with nothing done to it
+as_text() { "$tools/bin/clang" --no-default-config --target=x86_64-unknown-linux-gnu -S -emit-llvm -Xclang -disable-llvm-passes -x ir -o - -; }
+
 # for_arm: the module on standard input with the target of this machine in place of x86-64
 for_arm() {
     : | "$tools/bin/clang" --no-default-config --target="$target" -S -emit-llvm -x c -o - - | grep '^target ' &&
@@ -42,8 +45,7 @@ arm_library() {
     target=$(uname -m)-unknown-linux-gnu
     rm -f "$arm/module.bc"
     RATTLE_HOME=$arm/kit rt staticlib "$1" || return 1
-    "$tools/bin/clang" --no-default-config --target=x86_64-unknown-linux-gnu -S -emit-llvm -Xclang -disable-llvm-passes -x ir "$arm/module.bc" -o "$arm/module.ll" &&
-        for_arm <"$arm/module.ll" >"$arm/$1.ll" &&
+    as_text <"$arm/module.bc" >"$arm/module.ll" && for_arm <"$arm/module.ll" >"$arm/$1.ll" &&
         "$tools/bin/clang" --no-default-config --target="$target" -O3 -fPIC -ffunction-sections -fdata-sections -c -x ir "$arm/$1.ll" -o "$arm/$1.o" &&
         "$tools/bin/llvm-ar" rcs "$arm/lib$1.a" "$arm/$1.o"
 }

@@ -20,7 +20,8 @@ fn figure(value: f64) -> String {
 /// Median and 10 to 90 % of the ratios, round by round.
 fn ratio(ours: &[f64], rival: &[f64]) -> String {
     let ratios: Vec<f64> = ours.iter().zip(rival).map(|(ours, rival)| ours / rival).collect();
-    format!("{:.2} ({:.2} to {:.2})", part(&ratios, 50), part(&ratios, 10), part(&ratios, 90))
+    let [middle, low, high] = [50, 10, 90].map(|percent| part(&ratios, percent)).map(|value| format!("{value:.0$}", if value < 10.0 { 2 } else { 1 }));
+    format!("{middle} ({low} to {high})")
 }
 
 fn lines(group: &Group, costs: &Costs) -> Vec<Vec<String>> {

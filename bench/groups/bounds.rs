@@ -26,7 +26,7 @@ pub fn of_worst() -> Group {
     let tables = [table(&[1]), table(&[2, 3, 7, 43, 1807])];
     Group {
         title: "All 16 bounds of a table",
-        about: "ms for all 16, one by one; T of the tasks above, the others have D = T = 1,000,000, all have C = 1".to_string(),
+        about: "Milliseconds for all 16, one by one; T of the tasks above, the others have D = T = 1,000,000, all have C = 1".to_string(),
         columns: vec!["T = 1".to_string(), "T = 2, 3, 7, 43, 1807".to_string()],
         facts: Vec::new(),
         unit: vec![1e6; tables.len()],

@@ -18,7 +18,7 @@ pub fn one_by_one(columns: &[Column], size: &Size) -> Group {
     let row = |name: &'static str, part: Part, side: fn(Run) -> u64| Row { name, part, works: works(side) };
     Group {
         title: "Events one by one",
-        about: format!("ns an event; {} events that each side makes by the same rule, which is in all figures", grouped(size.made)),
+        about: format!("Nanoseconds an event; {} events that each side makes by the same rule, which is in all figures", grouped(size.made)),
         columns: columns.iter().map(Column::name).collect(),
         facts: vec![("closed jobs that were missed", columns.iter().map(|column| format!("{} %", rivals::missed(column.run(size.made, 0)))).collect())],
         unit: vec![size.made as f64; columns.len()],

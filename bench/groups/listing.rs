@@ -27,7 +27,7 @@ pub fn of_full(columns: &[Column]) -> Group {
     let inputs: Vec<_> = columns.iter().map(|column| Rc::new((0..INPUTS).map(|index| input(column, index)).collect::<Vec<_>>())).collect();
     Group {
         title: "The listing of a full input",
-        about: format!("us a listing; {INPUTS} inputs of 65,517 bytes or a few more; by the random rule no two are alike"),
+        about: format!("Microseconds a listing; {INPUTS} inputs of 65,517 bytes or a few more; by the random rule no two are alike"),
         columns: columns.iter().map(Column::name).collect(),
         facts: Vec::new(),
         unit: vec![1e3 * INPUTS as f64; columns.len()],

@@ -37,7 +37,7 @@ pub fn long(columns: &[Column], size: &Size) -> Group {
     let row = |name: &'static str, part: Part, side: fn(&[u8], &[u8]) -> u64| row(name, part, &all, size.passes, side);
     Group {
         title: "A log of bytes",
-        about: format!("ns an event; a log of {} events, {} times over", grouped(size.logged), size.passes),
+        about: format!("Nanoseconds an event; a log of {} events, {} times over", grouped(size.logged), size.passes),
         columns: columns.iter().map(Column::name).collect(),
         facts: Vec::new(),
         unit: vec![(size.logged * size.passes) as f64; columns.len()],
@@ -54,7 +54,7 @@ pub fn from_c(columns: &[Column], size: &Size) -> Group {
     let row = |name: &'static str, part: Part, side: fn(&[u8], &[u8]) -> u64| row(name, part, &all, size.passes, side);
     Group {
         title: "From C",
-        about: format!("ns an event; {LOGS} logs of {} events, {} times over; by the random rule no two are alike", grouped(FROM_C), size.passes),
+        about: format!("Nanoseconds an event; {LOGS} logs of {} events, {} times over; by the random rule no two are alike", grouped(FROM_C), size.passes),
         columns: columns.iter().map(Column::name).collect(),
         facts: Vec::new(),
         unit: vec![(LOGS * FROM_C * size.passes) as f64; columns.len()],

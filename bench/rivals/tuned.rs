@@ -112,18 +112,13 @@ impl Tuned {
         if line.released != 0 && time < line.last + u64::from(line.t) {
             return Err(11);
         }
-        // a job that is still open is at its deadline or past it
+        // a job that is still open is at its deadline or past it; a miss raises no class, so that the new key is not above the old one
         if self.due[i] != NO_DEADLINE {
             line.miss();
         }
-        let was = self.keys[i];
         (self.keys[i], self.due[i]) = line.open(time);
-        if was != NO_KEY && was == self.least {
-            self.look();
-        } else {
-            self.next = self.next.min(self.due[i]);
-            self.least = self.least.min(self.keys[i]);
-        }
+        self.next = self.next.min(self.due[i]);
+        self.least = self.least.min(self.keys[i]);
         Ok(())
     }
 
