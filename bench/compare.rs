@@ -9,17 +9,27 @@ use crate::{ours, rivals};
 
 const SPOILT: u64 = 4000;
 
-/// Every side comes to the sum of the first one of its kind; what differs is named.
+fn differs(side: &str, other: &str, column: &str) -> Result<(), String> {
+    Err(format!("{side} differs from {other} ({column}): docs/RULES.md says which of them is wrong"))
+}
+
+/// Of one column all rows that make events alone, or all others, against the first of them.
+fn column(group: &Group, at: usize, rule: bool) -> Result<(), String> {
+    let mut rows = group.rows.iter().filter(|row| (row.part == Part::Rule) == rule);
+    let Some(first) = rows.next() else { return Ok(()) };
+    let sum = first.works[at]();
+    match rows.find(|row| row.works[at]() != sum) {
+        Some(row) => differs(row.name, first.name, &format!("{}, {}", group.title, group.columns[at])),
+        None => Ok(()),
+    }
+}
+
+/// All sides come to the same sums.
 pub fn sums(groups: &[Group]) -> Result<(), String> {
     for group in groups {
-        let [rule, answers]: [Vec<_>; 2] = [true, false].map(|rule| group.rows.iter().filter(|row| (row.part == Part::Rule) == rule).collect());
-        for rows in [rule, answers].iter().filter(|rows| !rows.is_empty()) {
-            for (at, column) in group.columns.iter().enumerate() {
-                let sum = rows[0].works[at]();
-                if let Some(row) = rows.iter().find(|row| row.works[at]() != sum) {
-                    return Err(format!("{} differs from {} ({}, {column})", row.name, rows[0].name, group.title.to_lowercase()));
-                }
-            }
+        for at in 0..group.columns.len() {
+            column(group, at, true)?;
+            column(group, at, false)?;
         }
     }
     Ok(())
@@ -30,14 +40,14 @@ fn listing(input: &[u8], named: &str) -> Result<(), String> {
     let mut out = vec![0; ours::ROOM];
     let size = ours::list(input, &mut out) as usize;
     if out.get(..size) != Some(list(input).as_bytes()) {
-        return Err(format!("`listing_of_input::list` differs from idiomatic Rust ({named})"));
+        return differs("`listing_of_input::list`", "idiomatic Rust", named);
     }
     Ok(())
 }
 
 fn case(case: &Case, named: &str) -> Result<(), String> {
     let Case { table, log } = case;
-    let differs = |side: &str| Err(format!("{side} differs from idiomatic Rust ({named})"));
+    let differs = |side: &str| differs(side, "idiomatic Rust", named);
     let (sum, code) = (rivals::log::<Idiomatic>(table, log), rivals::choice::<Idiomatic>(table, log));
     if rivals::log::<Tuned>(table, log) != sum || rivals::choice::<Tuned>(table, log) != code {
         return differs("tuned Rust");

@@ -29,11 +29,8 @@ pub trait Engine {
 /// The events of a run and nothing else.
 #[inline(never)]
 pub fn rule_alone(run: Run) -> u64 {
-    if !run.lawful() {
-        return 0;
-    }
     let mut maker = Maker::new(&run, &table(run.tasks));
-    (0..run.events()).fold(0, |sum, _| fold(sum, event_code(&maker.next(run.rule))))
+    (0..run.count).fold(0, |sum, _| fold(sum, event_code(&maker.next(run.rule))))
 }
 
 /// The sum of the answers to a run's events, and the engine at their end.
@@ -42,7 +39,7 @@ fn applied<E: Engine>(run: Run) -> (u64, E) {
     let tasks = table(run.tasks);
     let (mut maker, mut engine) = (Maker::new(&run, &tasks), E::fresh(&tasks));
     let mut sum = 0;
-    for _ in 0..run.events() {
+    for _ in 0..run.count {
         let event = maker.next(run.rule);
         let answer = event.fault().map_or_else(|| engine.act(&event), Err);
         sum = fold(sum, answer_code(answer));
@@ -52,9 +49,6 @@ fn applied<E: Engine>(run: Run) -> (u64, E) {
 
 #[inline(never)]
 pub fn apply<E: Engine>(run: Run) -> u64 {
-    if !run.lawful() {
-        return 0;
-    }
     let (sum, engine) = applied::<E>(run);
     with_counts(sum, &engine.counts())
 }

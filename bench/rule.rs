@@ -2,7 +2,6 @@
 use crate::records::{Event, Task};
 
 const PAIRS: [(u8, u8); 8] = [(1, 2), (2, 3), (1, 3), (2, 5), (3, 5), (63, 64), (1, 64), (0, 1)];
-const MOST_EVENTS: u64 = 1_000_000_000;
 
 pub fn table(tasks: u64) -> Vec<Task> {
     let task = |i: usize| {
@@ -13,7 +12,7 @@ pub fn table(tasks: u64) -> Vec<Task> {
     (0..tasks as usize).map(task).collect()
 }
 
-/// What decides the events of a run.
+/// What decides the events of a run: 1 to 16 tasks, and rule 1 to 3.
 #[derive(Clone, Copy)]
 pub struct Run {
     pub tasks: u64,
@@ -23,19 +22,11 @@ pub struct Run {
 }
 
 impl Run {
-    pub fn lawful(&self) -> bool {
-        (1..=16).contains(&self.tasks) && (1..=3).contains(&self.rule)
-    }
-
-    pub fn events(&self) -> u64 {
-        self.count.min(MOST_EVENTS)
-    }
-
     /// The bytes of its table and of its log.
     pub fn bytes(&self) -> (Vec<u8>, Vec<u8>) {
         let tasks = table(self.tasks);
         let mut maker = Maker::new(self, &tasks);
-        let log = (0..self.events()).flat_map(|_| maker.next(self.rule).record()).collect();
+        let log = (0..self.count).flat_map(|_| maker.next(self.rule).record()).collect();
         (tasks.iter().flat_map(Task::record).collect(), log)
     }
 }
