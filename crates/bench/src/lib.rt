@@ -4,6 +4,7 @@ mod bounds;
 use bench_events::makers::events;
 use bench_events::makers::first;
 use bench_events::makers::serves;
+use bench_in_place::row_sum;
 use bench_runs::apply_sum;
 use bench_runs::rule_sum;
 use bench_sums::fold_answer;
@@ -51,7 +52,7 @@ pub extern "C" fn brumerola_bench_apply_in(tasks: u64, rule: u64, count: u64, se
         let maker = first(tasks, rule, seed);
         let begun = start(table(maker.tasks));
         let state = begun.state;
-        return apply_sum(state, maker, events(count));
+        return row_sum(state, maker, events(count));
     }
     0
 }

@@ -14,13 +14,13 @@ ghost use Rattle.bench_sums.specs.Runs.{eventSum, runSum};
 pub fn rule_sum(maker: Maker, events: u32) -> u64
     ensures { λ r. ⌜ r ≡ eventSum maker events ⌝ }
 {
-    let mut rows = cells();
+    let mut kept = cells();
     let mut next = maker;
     let mut sum: u64 = 0;
     let mut i: u32 = 0;
     while i < events {
         next = drawn(next);
-        let event = made(&mut rows, next, i);
+        let event = made(&mut kept, next, i);
         sum = fold_event(sum, event);
         i += 1;
     }
@@ -31,13 +31,13 @@ pub fn apply_sum(first: State, maker: Maker, events: u32) -> u64
     ensures { λ r. ⌜ r ≡ runSum first maker events ⌝ }
 {
     let mut state = first;
-    let mut rows = cells();
+    let mut kept = cells();
     let mut next = maker;
     let mut sum: u64 = 0;
     let mut i: u32 = 0;
     while i < events {
         next = drawn(next);
-        let event = made(&mut rows, next, i);
+        let event = made(&mut kept, next, i);
         let done = apply(state, event);
         let said = done.answer;
         sum = fold_answer(sum, said);

@@ -19,8 +19,8 @@ start-requires c κs = search needs
 events-requires : tie.Need-events-requires
 events-requires c κs = search needs
 
-apply-sum-requires : tie.Need-apply-sum-requires
-apply-sum-requires c κs = search needs
+row-sum-requires : tie.Need-row-sum-requires
+row-sum-requires c κs = search needs
 
 returns : tie.Need-returns
 returns c =
@@ -28,7 +28,7 @@ returns c =
     let k = g .before .before in
     rw (
       sym (k .before .before .serves .ensures) ∙ k .before .if1 .taken,
-      c .apply-sum .ensures,
+      c .row-sum .ensures,
       c .before .events .ensures,
       g .start .ensures,
       g .before .table .ensures,
@@ -47,6 +47,6 @@ brumerola-bench-apply-in-spec =
     table-requires
     start-requires
     events-requires
-    apply-sum-requires
+    row-sum-requires
     returns
     returns-2)

@@ -9,10 +9,10 @@ use Rattle.bench_runs.proofs.apply_sum.Statement.{statement}
 use Rattle.bench_runs.proofs.apply_sum.Tie as tie
 
 abbrev Inv-loop : tie.InvT-loop
-Inv-loop events state₀ rows₀ next₀ sum₀ i₀ state rows next sum i = (i ≤ events) × (Making next₀ i next rows × Running state₀ next₀ i state sum)
+Inv-loop events state₀ kept₀ next₀ sum₀ i₀ state kept next sum i = (i ≤ events) × (Making next₀ i next kept × Running state₀ next₀ i state sum)
 
 abbrev μ-loop : tie.MeasureT-loop
-μ-loop events state₀ rows₀ next₀ sum₀ i₀ state rows next sum i = events - i
+μ-loop events state₀ kept₀ next₀ sum₀ i₀ state kept next sum i = events - i
 
 cells-requires : tie.Need-cells-requires Inv-loop μ-loop
 cells-requires c κs = search needs
@@ -48,11 +48,11 @@ loop-again c =
     let a = d .before .before .before .before .args in
     let k = a .maker in
     let p = l .inv .1 .0 in
-    let t = this-event k (l .i) (l .next) (l .rows) p (d .drawn .result) (d .drawn .ensures) (m .result) (m .ensures .0) in
+    let t = this-event k (l .i) (l .next) (l .kept) p (d .drawn .result) (d .drawn .ensures) (m .result) (m .ensures .0) in
     let b = c .before .before .apply in (
       omega (arith, d .before .loop-test .taken),
       (
-        one-made k (l .i) (l .next) (l .rows) p (d .drawn .result) (d .drawn .ensures) (m .last .0) (m .ensures .1),
+        one-made k (l .i) (l .next) (l .kept) p (d .drawn .result) (d .drawn .ensures) (m .last .0) (m .ensures .1),
         one-run (a .first) k (l .i) (l .state) (l .sum) (l .inv .1 .1) (m .result) t (b .result) (b .ensures) (c .before .fold-answer .result)
             (c .before .fold-answer .ensures),
       ),

@@ -10,10 +10,10 @@ use Rattle.bench_runs.proofs.rule_sum.Statement.{statement}
 use Rattle.bench_runs.proofs.rule_sum.Tie as tie
 
 abbrev Inv-loop : tie.InvT-loop
-Inv-loop events rows₀ next₀ sum₀ i₀ rows next sum i = (i ≤ events) × (Making next₀ i next rows × (sum ≡ eventSum next₀ i))
+Inv-loop events kept₀ next₀ sum₀ i₀ kept next sum i = (i ≤ events) × (Making next₀ i next kept × (sum ≡ eventSum next₀ i))
 
 abbrev μ-loop : tie.MeasureT-loop
-μ-loop events rows₀ next₀ sum₀ i₀ rows next sum i = events - i
+μ-loop events kept₀ next₀ sum₀ i₀ kept next sum i = events - i
 
 cells-requires : tie.Need-cells-requires Inv-loop μ-loop
 cells-requires c κs = search needs
@@ -45,10 +45,10 @@ loop-again c =
     let k = d .before .before .before .before .args .maker in
     let m = c .before .made in
     let p = l .inv .1 .0 in
-    let t = this-event k (l .i) (l .next) (l .rows) p (d .drawn .result) (d .drawn .ensures) (m .result) (m .ensures .0) in (
+    let t = this-event k (l .i) (l .next) (l .kept) p (d .drawn .result) (d .drawn .ensures) (m .result) (m .ensures .0) in (
       omega (arith, d .before .loop-test .taken),
       (
-        one-made k (l .i) (l .next) (l .rows) p (d .drawn .result) (d .drawn .ensures) (m .last .0) (m .ensures .1),
+        one-made k (l .i) (l .next) (l .kept) p (d .drawn .result) (d .drawn .ensures) (m .last .0) (m .ensures .1),
         one-event k (l .i) (l .sum) (c .fold-event .result) (m .result) (l .inv .1 .1) t (c .fold-event .ensures),
       ),
     )
