@@ -1,0 +1,3 @@
+-- What the functions' proofs share, and how events are made one after the other.
+mod Laws
+pub mod Making

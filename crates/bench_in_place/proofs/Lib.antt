@@ -1,0 +1,4 @@
+-- What the walk of the run is made of.
+mod Cells
+mod Called
+mod Turned

@@ -1,0 +1,3 @@
+-- What the functions' proofs share, and how a run goes on.
+mod Laws
+pub mod Running

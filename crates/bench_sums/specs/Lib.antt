@@ -1,0 +1,3 @@
+-- What the crate's contracts cite: folding, and what a run comes to.
+pub mod Folds
+pub mod Runs
