@@ -1,5 +1,7 @@
 // Runs of the bench, event by event: the events alone, and the engine by value over them.
 use apply_engine::apply::apply;
+use apply_events::Answer;
+use apply_events::Applied;
 use bench_events::Maker;
 use bench_events::made::made;
 use bench_events::makers::cells;
@@ -30,7 +32,10 @@ pub fn rule_sum(maker: Maker, events: u32) -> u64
 pub fn apply_sum(first: State, maker: Maker, events: u32) -> u64
     ensures { λ r. ⌜ r ≡ runSum first maker events ⌝ }
 {
-    let mut state = first;
+    let mut done = Applied {
+        answer: Answer::Idle,
+        state: first,
+    };
     let mut kept = cells();
     let mut next = maker;
     let mut sum: u64 = 0;
@@ -38,12 +43,12 @@ pub fn apply_sum(first: State, maker: Maker, events: u32) -> u64
     while i < events {
         next = drawn(next);
         let event = made(&mut kept, next, i);
-        let done = apply(state, event);
+        // The state goes back in where it stands: no copy but the engine's own.
+        done = apply(done.state, event);
         let said = done.answer;
         sum = fold_answer(sum, said);
-        state = done.state;
         i += 1;
     }
-    let records = state.records;
-    fold_records(sum, records, state.count)
+    let records = done.state.records;
+    fold_records(sum, records, done.state.count)
 }

@@ -1,6 +1,6 @@
 -- `apply_sum` meets its contract: after i events the state and the sum are those that the first i events leave.
-use Prim.Native.Nat.{ℕ, _-_, _≤_}
-use mathlib.Core.Path.{_≡_, refl, ap, _∙_}
+use Prim.Native.Nat.{_-_, _≤_}
+use mathlib.Core.Path.{_≡_}
 use native.Mathlib.Omega.{arith}
 use borrow.Author.Needs.{needs}
 use Rattle.bench_events.proofs.Making.{Making, none-made, this-event, one-made}
@@ -9,10 +9,10 @@ use Rattle.bench_runs.proofs.apply_sum.Statement.{statement}
 use Rattle.bench_runs.proofs.apply_sum.Tie as tie
 
 abbrev Inv-loop : tie.InvT-loop
-Inv-loop events state₀ kept₀ next₀ sum₀ i₀ state kept next sum i = (i ≤ events) × (Making next₀ i next kept × Running state₀ next₀ i state sum)
+Inv-loop events done₀ kept₀ next₀ sum₀ i₀ done kept next sum i = (i ≤ events) × (Making next₀ i next kept × Running (done₀ .state) next₀ i (done .state) sum)
 
 abbrev μ-loop : tie.MeasureT-loop
-μ-loop events state₀ kept₀ next₀ sum₀ i₀ state kept next sum i = events - i
+μ-loop events done₀ kept₀ next₀ sum₀ i₀ done kept next sum i = events - i
 
 cells-requires : tie.Need-cells-requires Inv-loop μ-loop
 cells-requires c κs = search needs
@@ -42,19 +42,19 @@ loop-less c = search needs
 
 loop-again : tie.Need-loop-again Inv-loop μ-loop
 loop-again c =
-    let m = c .before .before .before .made in
-    let d = c .before .before .before .before .before in
+    let m = c .before .before .made in
+    let d = c .before .before .before .before in
     let l = d .before .before .loop in
     let a = d .before .before .before .before .args in
     let k = a .maker in
     let p = l .inv .1 .0 in
     let t = this-event k (l .i) (l .next) (l .kept) p (d .drawn .result) (d .drawn .ensures) (m .result) (m .ensures .0) in
-    let b = c .before .before .apply in (
+    let b = c .before .apply in (
       omega (arith, d .before .loop-test .taken),
       (
         one-made k (l .i) (l .next) (l .kept) p (d .drawn .result) (d .drawn .ensures) (m .last .0) (m .ensures .1),
-        one-run (a .first) k (l .i) (l .state) (l .sum) (l .inv .1 .1) (m .result) t (b .result) (b .ensures) (c .before .fold-answer .result)
-            (c .before .fold-answer .ensures),
+        one-run (a .first) k (l .i) (l .done .state) (l .sum) (l .inv .1 .1) (m .result) t (b .result) (b .ensures) (c .fold-answer .result)
+            (c .fold-answer .ensures),
       ),
     )
 

@@ -1,6 +1,6 @@
 -- `rule_sum` meets its contract: after i events the numbers, the cells and the sum are those of the first i events.
-use Prim.Native.Nat.{ℕ, _-_, _≤_}
-use mathlib.Core.Path.{_≡_, refl, ap, _∙_}
+use Prim.Native.Nat.{_-_, _≤_}
+use mathlib.Core.Path.{_≡_}
 use native.Mathlib.Omega.{arith}
 use borrow.Author.Needs.{needs}
 use Rattle.bench_events.proofs.Making.{Making, none-made, this-event, one-made}

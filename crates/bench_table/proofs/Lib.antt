@@ -1,0 +1,2 @@
+-- What is shown of the table beside the functions' contracts.
+pub mod Accepted
