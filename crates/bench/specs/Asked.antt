@@ -1,12 +1,10 @@
--- What each function of the bench answers.
+-- What is answered of bytes: a log, all bounds, a listing.
 use Prim.Native.Nat.{ℕ, zero, suc, _+_, min}
-use mathlib.Core.Bool.{cond}
 use mathlib.Core.List.{List}
 use Rattle.table_rules.specs.declared.Table.{Table}
 use Rattle.table_rules.specs.declared.Answer.{Answer}
 use Rattle.table_rules.specs.declared.Answer.the-variants as T
 use Rattle.table_reading.specs.Table.{readTable}
-use Rattle.state_rules.specs.declared.State.{State}
 use Rattle.state_rules.specs.State.{started}
 use Rattle.apply_events.specs.declared.Ran.{Ran}
 use Rattle.apply_events.specs.Log.{ran}
@@ -14,23 +12,8 @@ use Rattle.bound_one.specs.Answers.{boundValue}
 use Rattle.bound_one.specs.Asked.{oneAnswer}
 use Rattle.listing_of_input.specs.declared.Listing.{Listing}
 use Rattle.listing_of_input.specs.declared.Listing.the-variants as L
-use Rattle.bench_table.specs.Table.{tableOf}
-use Rattle.bench_events.specs.declared.Maker.{Maker}
-use Rattle.bench_events.specs.Maker.{served, eventsOf, firstOf}
 use Rattle.bench_sums.specs.Folds.{span, folded, answerCode}
-use Rattle.bench_sums.specs.Runs.{eventSum, stateFolded, runSum}
-
--- 0 where tasks or rule are none of the bench's
-abbrev pub ruleAsked : ℕ → ℕ → ℕ → ℕ → ℕ
-ruleAsked n rule count seed = cond (served n rule) (eventSum (firstOf n rule seed) (eventsOf count)) 0
-
--- the fresh state of the bench's table
-abbrev pub begun : Maker → State
-begun k = started (tableOf (k .tasks)) .state
-
--- both engines answer this
-abbrev pub runAsked : ℕ → ℕ → ℕ → ℕ → ℕ
-runAsked n rule count seed = cond (served n rule) (runSum (begun (firstOf n rule seed)) (firstOf n rule seed) (eventsOf count)) 0
+use Rattle.bench_sums.specs.Runs.{stateFolded}
 
 -- the last answer and then what each task has counted
 abbrev pub ranFolded : Ran → ℕ

@@ -4,7 +4,6 @@ mod bounds;
 use bench_events::makers::events;
 use bench_events::makers::first;
 use bench_events::makers::serves;
-use bench_in_place::row_sum;
 use bench_runs::apply_sum;
 use bench_runs::rule_sum;
 use bench_sums::fold_answer;
@@ -16,7 +15,8 @@ use state_rules::fresh::start;
 ghost use mathlib.Core.Path.{_≡_};
 ghost use lib.ListN.{length};
 ghost use Rattle.listing_of_input.specs.Lent.{listAnswer, listedInto};
-ghost use Rattle.bench.specs.Asked.{ruleAsked, runAsked, logAsked, boundsAsked, listNumber};
+ghost use Rattle.bench_sums.specs.Asked.{ruleAsked, runAsked};
+ghost use Rattle.bench.specs.Asked.{logAsked, boundsAsked, listNumber};
 
 // The events of a rule alone.
 #[no_mangle]
@@ -39,20 +39,6 @@ pub extern "C" fn brumerola_bench_apply(tasks: u64, rule: u64, count: u64, seed:
         let begun = start(table(maker.tasks));
         let state = begun.state;
         return apply_sum(state, maker, events(count));
-    }
-    0
-}
-
-// The engine over a lent row.
-#[no_mangle]
-pub extern "C" fn brumerola_bench_apply_in(tasks: u64, rule: u64, count: u64, seed: u64) -> u64
-    ensures { λ r. ⌜ r ≡ runAsked tasks rule count seed ⌝ }
-{
-    if serves(tasks, rule) {
-        let maker = first(tasks, rule, seed);
-        let begun = start(table(maker.tasks));
-        let state = begun.state;
-        return row_sum(state, maker, events(count));
     }
     0
 }

@@ -1,8 +1,8 @@
 -- `brumerola_bench_apply_in` meets its contract: 0, or what the engine over a lent row comes to over the rule's events.
 use mathlib.Core.Path.{sym, _∙_}
 use borrow.Author.Needs.{needs}
-use Rattle.bench.proofs.brumerola_bench_apply_in.Statement.{statement}
-use Rattle.bench.proofs.brumerola_bench_apply_in.Tie as tie
+use Rattle.bench_lent.proofs.brumerola_bench_apply_in.Statement.{statement}
+use Rattle.bench_lent.proofs.brumerola_bench_apply_in.Tie as tie
 
 serves-requires : tie.Need-serves-requires
 serves-requires c κs = search needs
