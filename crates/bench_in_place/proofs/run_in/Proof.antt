@@ -22,7 +22,8 @@ use prog.Wp.{Heap, Out, Env, afterSeq, afterBlock, afterTurn, Calls, Loops, Wp, 
 use ghost.Atoms.{Atoms}
 use contract.Monad.{Fun}
 use contract.Running.{givenOf, tables, tablesOf}
-use types.Kit.{Given, Item, ‵, runs, anyQ, atRet, Sq, _⊛_, some, _$_, _∵_, !, qed, by, move, keep, drop, use1, use2, split, pick, rewrite, fjoin, suffices, done}
+use types.Kit.{Given, Item, ‵, runs, anyQ, atRet, Sq, _⊛_, some, _$_, _∵_, !, qed, by, move, keep, drop, use1, use2, split, pick, rewrite, fjoin, suffices}
+use types.Kit.{done}
 use types.Part.{whole, sub, look-in, agg}
 use types.Run.{look, init, store, forget, stop, fld, from, load, lit, of-opd, bin, addr, and-then, no-more, land, assigns, assigns-last, first, blocks, returns}
 use types.Run.{enter, alloc1, alloc0, params1, pass1, pass0, free1, free0, exec, Below, again, loops}
@@ -338,8 +339,9 @@ module _ {M : Type 1} (𝓤 : URA M) (H : Heap 𝓤) (A : Atoms 𝓤) (W : Given
           rewrite ! (U₊ 12) (λ (v : Val). ‵ (fat fullShare E′.mir l₁₂ 0 v)) (ap only (LL.tells E.the-type E′.the-laws e (w ∷ []) e-is)) refl $
           -- the row is lent to `apply_in`
           assigns ! (addr ! (from ! (stop !))) (from ! (stop !)) (init ! (U₊ 17) refl (tt, tt)) $
-          assigns ! (agg ! (and-then ! (load ! (from ! (stop !)) (look ! (U₊ 17) refl)) (and-then ! (load ! (from ! (stop !)) (look ! (D₊ 2) refl)) (no-more !))))
-          (from ! (stop !)) (init ! (U₊ 18) refl (tt, (tt, (record { fits = n-fits }, tt)))) $
+          assigns ! (agg ! (and-then ! (load ! (from ! (stop !)) (look ! (U₊ 17) refl))
+          (and-then ! (load ! (from ! (stop !)) (look ! (D₊ 2) refl)) (no-more !)))) (from ! (stop !))
+          (init ! (U₊ 18) refl (tt, (tt, (record { fits = n-fits }, tt)))) $
           rewrite ! (U₊ 18) (λ (j : ℕ). ‵ (fat fullShare (sliceTy mut-ref) l₁₈ 0 (sliceVal (l₆, 0) j))) (sym (t .long)) refl $
           move ! (1 ∷ []) $
           calls-lent ! fm (lent-row 𝓤 H A W R.the-row (t .zs) l₆ 0 (room (t .zs) (t .long))) (ApplyIn 𝓤 H A at-mem run) (known .apply-in)
