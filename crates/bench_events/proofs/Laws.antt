@@ -5,7 +5,7 @@ use mathlib.Core.List.{List}
 use native.Mathlib.Nat.{mod-lt, div-le-self, mul-le-mul-right}
 use native.Mathlib.Omega.{arith}
 use borrow.Author.Tests.{lt-ltb, le-ltb, le-leb, lt-leb}
-use lib.ListN.{getD, set}
+use lib.ListN.{set}
 use Rattle.event_reading.specs.declared.Event.{Event}
 use Rattle.bench_table.specs.Table.{spacingOf}
 use Rattle.bench_events.specs.declared.Maker.{Maker}

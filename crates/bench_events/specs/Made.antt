@@ -1,6 +1,6 @@
 -- The event that a rule makes, and what rule 1 then keeps of each task: due at its position, free 16 places on, jobs 32 places on.
 use Prim.Native.Nat.{ℕ, _+_, _-_, _*_, _/_, _%_}
-use mathlib.Core.Bool.{Bool, cond}
+use mathlib.Core.Bool.{cond}
 use mathlib.Core.List.{List}
 use lib.Dec.{eqb, leb, ltb}
 use lib.ListN.{getD, set}

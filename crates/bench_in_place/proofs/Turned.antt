@@ -1,6 +1,6 @@
 -- One event over the row of the tasks is one event of the run: the row in front of what lies behind it is the run's state.
 use Prim.Native.Nat.{ℕ, _+_, _≤_, min}
-use mathlib.Core.Path.{_≡_, refl, sym, ap, subst, _∙_}
+use mathlib.Core.Path.{_≡_, sym, ap, subst, _∙_}
 use mathlib.Core.List.{List, _++_}
 use native.Mathlib.Omega.{arith}
 use lib.ListN.{length, take, drop, length-append, take-append-drop}
@@ -16,7 +16,7 @@ use Rattle.lent_engine.proofs.Fronts.{placed-is}
 use Rattle.bench_events.specs.declared.Maker.{Maker}
 use Rattle.bench_events.specs.Events.{eventAt}
 use Rattle.bench_sums.specs.Folds.{folded, answerCode, recordsFolded}
-use Rattle.bench_sums.specs.Runs.{stateAt, answerSum, runSum}
+use Rattle.bench_sums.specs.Runs.{answerSum, runSum}
 use Rattle.bench_sums.proofs.Running.{Running, none-run, one-run}
 
 -- the state of n tasks: a row and a clock, and behind the row what lies there

@@ -1,5 +1,4 @@
 -- `made::by_chance` meets its contract: a job is completed, or one is released, or there is a tick.
-use mathlib.Core.Path.{refl}
 use borrow.Author.Needs.{needs}
 use Rattle.bench_events.proofs.Laws.{completed, released, ticked}
 use Rattle.bench_events.proofs.made.by_chance.Statement.{statement}

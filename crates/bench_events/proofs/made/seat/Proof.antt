@@ -1,6 +1,6 @@
 -- `made::seat` meets its contract: a remainder is below what it is taken by.
 use Prim.Native.Nat.{ℕ, _/_, _%_}
-use mathlib.Core.Path.{_≡_, ap}
+use mathlib.Core.Path.{ap}
 use native.Mathlib.Omega.{arith}
 use borrow.Author.Needs.{needs}
 use Rattle.bench_events.proofs.Laws.{seated}

@@ -1,5 +1,4 @@
 -- `makers::first` meets its contract: the number of tasks is 1 to 16.
-use Prim.Native.Nat.{ℕ, _/_, _%_}
 use mathlib.Core.Path.{_≡_, ap, _∙_}
 use borrow.Author.Needs.{needs}
 use Rattle.bench_table.specs.Table.{countOf}

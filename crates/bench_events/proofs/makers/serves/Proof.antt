@@ -1,6 +1,5 @@
 -- `makers::serves` meets its contract: one test after the other.
-use mathlib.Core.Path.{sym, _∙_}
-use borrow.Author.Needs.{needs}
+use mathlib.Core.Path.{sym}
 use borrow.Author.Tests.{le-leb, lt-leb}
 use Rattle.laws.proofs.Tests.{same-test}
 use Rattle.bench_events.proofs.makers.serves.Statement.{statement}
