@@ -1,10 +1,13 @@
 """The engineer's question: does the guarantee hold for this table?
 
 Bounds are the proved program's. The sentence for a task without one shows the sum that fails."""
+from . import listing, programs
+from .records import input_bytes
 from .wrong import Wrong, counted, listed
 
-
 MOST_NAMED = 4  # of the tasks above, in a sentence
+MOST_TIMES = 20000  # that are looked at for the largest C
+FAULT = "this is a fault of the command"
 
 
 def above(tasks, place):
@@ -30,12 +33,39 @@ def hold(given):
         asked = demand(given.tasks, place, first.bound or task.D)
         if asked != first.bound if first.bound else asked <= task.D:
             bound = first.bound or "-"
-            raise Wrong(f"brumerola: the listing and the demand of {task.name} differ: bound {bound}, demand {asked}; this is a fault of the command")
+            raise Wrong(f"brumerola: the listing and the demand of {task.name} differ: bound {bound}, demand {asked}; {FAULT}")
 
 
 def failing(given):
     """The positions that have no bound."""
     return [place for place, first in enumerate(given.listing.first) if first.bound is None]
+
+
+def largest(given, place):
+    """The largest C with which a task would have a bound, 0 where none would do; None where too many times would have to be looked at.
+
+    What the tasks above leave is largest at a multiple of some T, just before one more job can come, or at D."""
+    own, uppers = given.tasks[place], [given.tasks[other] for other in above(given.tasks, place)]
+    if sum(own.D // task.T for task in uppers) > MOST_TIMES:
+        return None
+    times = {own.D}.union(*(range(task.T, own.D + 1, task.T) for task in uppers))
+    most = max(0, max(ticks - sum(-(-ticks // task.T) * task.C for task in uppers) for ticks in times))
+    if most and bound_with(given, place, most) is None or bound_with(given, place, most + 1) is not None:
+        raise Wrong(f"brumerola: the listing and the largest C of {own.name}, {most}, differ; {FAULT}")
+    return most
+
+
+def bound_with(given, place, C):
+    """The bound that the program prints for a task with another C."""
+    tasks = [task._replace(C=C) if at == place else task for at, task in enumerate(given.tasks)]
+    return listing.parse(programs.listing(input_bytes(tasks, []))).first[place].bound
+
+
+def advice(most):
+    """What a C would do, in a sentence."""
+    if most is None:
+        return ""
+    return f" With a C of at most {most:,} it would have one." if most else " No C would do: the tasks above leave it no time."
 
 
 def why(given, place):
@@ -86,7 +116,7 @@ def told(given):
     yield ""
     yield f"Together they can take {sum(map(share, given.tasks)):.1f} % of the processor. Slack is D less the bound."
     for place in failing(given):
-        yield why(given, place)
+        yield why(given, place) + advice(largest(given, place))
     if failing(given):
         yield "To mend it, give it a larger D or a smaller C, or the tasks above it a larger T or a smaller C, and check again."
     else:

@@ -49,6 +49,7 @@ def checked(given):
         values["slack"] = None if bound is None else values["D"] - bound
         values["utilisation"] = check.share(given.tasks[place]) / 100
         values["why"] = check.why(given, place) if bound is None else None
+        values["largest_C"] = check.largest(given, place) if bound is None else None
     return {"guaranteed": not check.failing(given), "utilisation": sum(values["utilisation"] for values in found), "tasks": found}
 
 
