@@ -16,7 +16,7 @@ mod sums;
 mod tables;
 
 /// An odd number, so that a median is one of them.
-const ROUNDS: usize = 15;
+const ROUNDS: usize = 11;
 
 fn agreed() -> Result<(), String> {
     compare::sums(&groups::all(&columns::compared(), &COMPARED))?;
