@@ -2,21 +2,21 @@
 use event_logs::Ending;
 use state_rules::State;
 
-#[derive(Drop)]
+#[derive(Clone, Copy)]
 pub enum Answer {
     Run { position: usize, class: u32 },
     Idle,
     Refused(u8),
 }
 
-#[derive(Drop)]
+#[derive(Clone, Copy)]
 pub struct Applied {
     pub answer: Answer,
     pub state: State,
 }
 
 // What a log does: the last answer, the state after it, and what ended the reading.
-#[derive(Drop)]
+#[derive(Clone, Copy)]
 pub struct Ran {
     pub answer: Answer,
     pub state: State,

@@ -4,7 +4,7 @@ pub mod judging;
 use task_records::Record;
 
 // The refusal, or 0, and the task's record afterwards.
-#[derive(Drop)]
+#[derive(Clone, Copy)]
 pub struct Ruling {
     pub refusal: u8,
     pub after: Record,

@@ -3,7 +3,7 @@ pub mod made;
 pub mod makers;
 
 // What a rule keeps in numbers: n tasks, the rule, the spread of times, the number of chance x, and the time.
-#[derive(Drop)]
+#[derive(Clone, Copy)]
 pub struct Maker {
     pub tasks: u32,
     pub rule: u32,

@@ -3,7 +3,7 @@ pub mod of_table;
 
 use table_rules::{Answer, PLACES};
 
-#[derive(Drop)]
+#[derive(Clone, Copy)]
 pub struct Row {
     pub answer: Answer,
     pub cells: [u32; PLACES],

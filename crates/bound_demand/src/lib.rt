@@ -4,7 +4,7 @@ pub mod above;
 use table_rules::PLACES;
 
 // All that the search goes by: the task's own cost, and a cost and a spacing for each task above it. Two rows, so that each round can be lent both.
-#[derive(Drop)]
+#[derive(Clone, Copy)]
 pub struct Load {
     pub own: u32,
     pub count: usize,

@@ -2,7 +2,7 @@
 pub mod search;
 
 // What the search yields.
-#[derive(Drop)]
+#[derive(Clone, Copy)]
 pub enum Found {
     At(u32),
     Nothing,

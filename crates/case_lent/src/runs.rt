@@ -11,7 +11,7 @@ use state_rules::State;
 use state_rules::fresh::start;
 
 // seen: how often each refusal came, at its number; 16 for a chosen job and 17 for none.
-#[derive(Drop)]
+#[derive(Clone, Copy)]
 pub struct Walk {
     pub state: State,
     pub x: u64,

@@ -5,7 +5,7 @@ use event_writing::Writing;
 use std::num::wrapping_add_u64;
 
 // What the readable records add up to, with how many are the same bytes once they are written again.
-#[derive(Drop)]
+#[derive(Clone, Copy)]
 struct Sums {
     kinds: u64,
     tasks: u64,

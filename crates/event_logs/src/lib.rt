@@ -9,7 +9,7 @@ use event_reading::{EVENT_SIZE, Reading, read};
 pub const MOST_BYTES: usize = 65536;
 
 // What ended the reading of a log.
-#[derive(Drop)]
+#[derive(Clone, Copy)]
 pub enum Ending {
     // No bytes were left.
     Whole,

@@ -13,7 +13,7 @@ pub const COMPLETION: u8 = 2;
 pub const EVENT_SIZE: usize = 20;
 
 // An event holds the numbers of its record, so a value too can break 7 or 8.
-#[derive(Drop)]
+#[derive(Clone, Copy)]
 pub struct Event {
     pub kind: u8,
     pub task: u8,
@@ -22,7 +22,7 @@ pub struct Event {
 }
 
 // What reading one record says.
-#[derive(Drop)]
+#[derive(Clone, Copy)]
 pub enum Reading {
     Event(Event),
     // No bytes were left.

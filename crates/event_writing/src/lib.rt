@@ -7,7 +7,7 @@ ghost use Rattle.event_writing.specs.Writing.{head_of, record_of, wrote_record, 
 use event_reading::{EVENT_SIZE, Event, judge};
 
 // What writing one record says.
-#[derive(Drop)]
+#[derive(Clone, Copy)]
 pub enum Writing {
     Whole,
     Refused(u8),

@@ -4,7 +4,7 @@ pub mod steps;
 use apply_events::Answer;
 
 // What an event comes to over a lent row: the answer, and the clock afterwards.
-#[derive(Drop)]
+#[derive(Clone, Copy)]
 pub struct Turn {
     pub answer: Answer,
     pub clock: u64,

@@ -7,7 +7,7 @@ use libc::{STDERR_FILENO, STDIN_FILENO, STDOUT_FILENO};
 use listing_of_input::{Listing, ROOM, list};
 
 // How many bytes were read until the input ended or its bytes were full; or a read failed, and nobody knows what was to come.
-#[derive(Drop)]
+#[derive(Clone, Copy)]
 enum Taken {
     Whole(usize),
     Failed,

@@ -12,7 +12,7 @@ use event_reading::{EVENT_SIZE, Reading, read};
 use state_rules::State;
 
 // Where the lines of the events end, the state after them, and what ended the reading.
-#[derive(Drop)]
+#[derive(Clone, Copy)]
 pub struct Ended {
     pub place: usize,
     pub state: State,

@@ -15,7 +15,7 @@ use text_writing::words;
 pub const ROOM: usize = 131072;
 
 // How many of the lent bytes are the text.
-#[derive(Drop)]
+#[derive(Clone, Copy)]
 pub enum Listing {
     Text(usize),
     Refused(u8),

@@ -6,7 +6,7 @@ use task_records::Record;
 use task_steps::rank::key;
 
 // The least open job so far, if there is one.
-#[derive(Drop)]
+#[derive(Clone, Copy)]
 pub struct Best {
     pub found: bool,
     pub key: u64,

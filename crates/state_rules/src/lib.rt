@@ -9,7 +9,7 @@ use task_records::Record;
 // The limit of time, in ticks.
 pub const LIMIT: u64 = 1000000000000;
 
-#[derive(Drop)]
+#[derive(Clone, Copy)]
 pub struct State {
     pub count: usize,
     pub clock: u64,
@@ -17,7 +17,7 @@ pub struct State {
 }
 
 // The state beside the answer: no tasks where the table is refused.
-#[derive(Drop)]
+#[derive(Clone, Copy)]
 pub struct Started {
     pub answer: table_rules::Answer,
     pub state: State,

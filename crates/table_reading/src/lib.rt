@@ -8,14 +8,14 @@ use table_rules::{Answer, Table, Task};
 pub const TASK_SIZE: usize = 16;
 
 // What one table record reads as.
-#[derive(Drop)]
+#[derive(Clone, Copy)]
 pub enum Row {
     Task(Task),
     Refused(u8),
 }
 
 // The table beside the answer: no tasks where it is refused.
-#[derive(Drop)]
+#[derive(Clone, Copy)]
 pub struct TableRead {
     pub answer: Answer,
     pub table: Table,

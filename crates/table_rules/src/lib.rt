@@ -14,7 +14,7 @@ pub const LONGEST_T: u32 = 1000000;
 pub const WIDEST_K: u8 = 64;
 
 // C, D and T in ticks; at most m misses in any K jobs in a row.
-#[derive(Drop)]
+#[derive(Clone, Copy)]
 pub struct Task {
     pub c: u32,
     pub d: u32,
@@ -23,13 +23,13 @@ pub struct Task {
     pub k: u8,
 }
 
-#[derive(Drop)]
+#[derive(Clone, Copy)]
 pub struct Table {
     pub count: usize,
     pub tasks: [Task; PLACES],
 }
 
-#[derive(Drop)]
+#[derive(Clone, Copy)]
 pub enum Answer {
     Accepted,
     Refused { number: u8, position: usize },

@@ -4,7 +4,7 @@ use state_rules::State;
 use tally_rules::Tallies;
 
 // The state and the tallies beside the answer, as given where the report is refused; and what ended the reading.
-#[derive(Drop)]
+#[derive(Clone, Copy)]
 pub struct Reported {
     pub answer: tally_rules::Answer,
     pub state: State,

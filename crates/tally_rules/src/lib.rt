@@ -14,14 +14,14 @@ pub const CELLS: usize = 128;
 pub const MOST_TALLIED: u64 = 1000000000000000;
 
 // The least and the most response. While nothing was met there is none, so that none can be read as 0.
-#[derive(Drop)]
+#[derive(Clone, Copy)]
 pub enum Span {
     Absent,
     Between { least: u32, most: u32 },
 }
 
 // The responses of one task's met jobs: D of the task, how many fell into each cell, how many there were, the least and the most, and their sum.
-#[derive(Drop)]
+#[derive(Clone, Copy)]
 pub struct Tally {
     pub d: u32,
     pub cells: [u64; CELLS],
@@ -30,20 +30,20 @@ pub struct Tally {
     pub sum: u64,
 }
 
-#[derive(Drop)]
+#[derive(Clone, Copy)]
 pub enum Answer {
     Accepted,
     Refused(u8),
 }
 
 // The tallies of a state's tasks, each at its task's place.
-#[derive(Drop)]
+#[derive(Clone, Copy)]
 pub struct Tallies {
     pub row: [Tally; PLACES],
 }
 
 // The tally beside the answer: as given where it is refused.
-#[derive(Drop)]
+#[derive(Clone, Copy)]
 pub struct Tallied {
     pub answer: Answer,
     pub tally: Tally,

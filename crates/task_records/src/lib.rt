@@ -4,7 +4,7 @@ pub mod closing;
 use table_rules::Task;
 
 // live: the last released job is open, with class as it opened. marks: the newest job in bit 0.
-#[derive(Drop)]
+#[derive(Clone, Copy)]
 pub struct Record {
     pub task: Task,
     pub level: i32,
