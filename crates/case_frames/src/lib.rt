@@ -1,4 +1,7 @@
 // What the programs of cases share: printing, and an input in parts. Before each part stands its size in two bytes, the lower byte first.
+#![tactic(auto)]
+
+pub mod input;
 pub mod print;
 
 ghost use Rattle.std.specs.Prelude.{◌<◌, ◌≡◌, get_or};

@@ -1,32 +1,33 @@
 // Words and numbers on standard output. What is printed is outside the logic, so the contracts say that nothing is answered.
-ghost use Rattle.std.specs.Prelude.{◌≡◌};
+// A write that fails is the caller's error.
+ghost use Rattle.std.specs.Prelude.{◌≡◌, IfOk};
 
-use libc::STDOUT_FILENO;
+use std::io;
 
-pub fn text(words: &[u8])
-    ensures { result ≡ tt }
+pub fn text(rt: &impl Print, words: &[u8]) -> io::Result<()>
+    ensures { IfOk result (λ u. u ≡ tt) }
 {
-    io::write_all(STDOUT_FILENO, words);
+    rt.write_all(words)
 }
 
 // Words, then a number.
-pub fn number(words: &[u8], n: u64)
-    ensures { result ≡ tt }
+pub fn number(rt: &impl Print, words: &[u8], n: u64) -> io::Result<()>
+    ensures { IfOk result (λ u. u ≡ tt) }
 {
-    io::write_all(STDOUT_FILENO, words);
-    io::print_decimal(STDOUT_FILENO, n);
+    rt.write_all(words)?;
+    rt.print(n)
 }
 
 // Words and a row of numbers, to the end of the line.
-pub fn row(words: &[u8], a: u64, b: u64, c: u64, d: u64, e: u64)
-    ensures { result ≡ tt }
+pub fn row(rt: &impl Print, words: &[u8], a: u64, b: u64, c: u64, d: u64, e: u64) -> io::Result<()>
+    ensures { IfOk result (λ u. u ≡ tt) }
 {
-    number(words, a);
-    number(b" ", b);
-    number(b" ", c);
-    number(b" ", d);
-    number(b" ", e);
-    text(b"\n");
+    number(rt, words, a)?;
+    number(rt, b" ", b)?;
+    number(rt, b" ", c)?;
+    number(rt, b" ", d)?;
+    number(rt, b" ", e)?;
+    text(rt, b"\n")
 }
 
 pub fn wide(x: u8) -> u64
