@@ -18,6 +18,7 @@ pub fn no_best() -> Best
     }
 }
 
+#[tactic(auto, unfolding(state_choice::specs::Choice::best_to))]
 pub fn choose_in(row: &[Record]) -> Best
     ensures { result ≡ best_to row.now (length row.now) }
 {
@@ -30,7 +31,7 @@ pub fn choose_in(row: &[Record]) -> Best
     best
 }
 
-// The same over an array by value, which is lent to it: whoever calls it needs no walk.
+// The same over an array by value, which is lent to it.
 pub fn choose_of(records: [Record; PLACES]) -> Best
     ensures { result ≡ best_to records place_count }
 {

@@ -13,7 +13,7 @@ pub fn close_in(of: &mut Record, met: bool)
     *of = close(*of, met);
 }
 
-// The same by value: its contract says nothing of a reference, so whoever calls it needs no walk.
+// The same by value: its contract says nothing of a reference.
 pub fn close_of(of: Record, met: bool) -> Record
     ensures { result ≡ closed of met }
 {
@@ -23,6 +23,7 @@ pub fn close_of(of: Record, met: bool) -> Record
 }
 
 // Step 1 for one record: a late job is closed as missed.
+#[tactic(auto, unfolding(task_steps::specs::Opening::expired))]
 pub fn expire_in(of: &mut Record, time: u64)
     ensures { of.new ≡ expired of.old time }
 {
