@@ -1,1 +1,2 @@
 // No code: what every proof of this repository cites stands in specs/ and proofs/.
+#![tactic(auto)]
