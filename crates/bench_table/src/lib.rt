@@ -1,4 +1,6 @@
 // The table of n tasks: C 1, D and T by the position, and the eight pairs (m, K) in turn.
+#![tactic(auto)]
+
 ghost use Rattle.std.specs.Prelude.{◌≡◌, ◌≤◌};
 ghost use Rattle.bench_table.specs.Table.{count_of, spacing_of, task_at, table_of};
 
