@@ -1,4 +1,6 @@
 // The task table and its rules.
+#![tactic(auto)]
+
 pub mod rules;
 
 // The most tasks of a table.
