@@ -1,4 +1,6 @@
 // Little-endian numbers read from byte slices: one reader, with the width as a parameter. Each width of the interface calls it.
+#![tactic(auto)]
+
 ghost use Rattle.std.specs.Prelude.{◌≡◌, ◌≤◌, ◌<◌, ◌^◌, get_or, take};
 ghost use Rattle.number_reading.specs.Words.{number};
 
