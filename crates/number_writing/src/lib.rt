@@ -1,4 +1,6 @@
 // Little-endian numbers written to byte slices: one writer, with the width as a parameter. Each width of the interface calls it.
+#![tactic(auto)]
+
 ghost use Rattle.std.specs.Prelude.{◌≡◌, ◌++◌, ◌≤◌, leb, length, drop};
 ghost use Rattle.number_writing.specs.Bytes.{bytes, wrote};
 
