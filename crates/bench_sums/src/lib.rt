@@ -1,4 +1,6 @@
 // The sum of a run: what is answered, and then what each task has counted, folded into one number of 40 bits.
+#![tactic(auto)]
+
 ghost use Rattle.std.specs.Prelude.{◌≡◌, min};
 ghost use Rattle.bench_sums.specs.Folds.{folded, answer_code, event_code, record_folded, records_folded};
 
