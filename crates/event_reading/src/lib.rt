@@ -1,4 +1,6 @@
 // Events: the rules of an event value, and what a record of 20 bytes reads as.
+#![tactic(auto)]
+
 ghost use Rattle.std.specs.Prelude.{◌≡◌, ◌≤◌, length};
 ghost use Rattle.event_reading.specs.Event.{fault_of};
 ghost use Rattle.event_reading.specs.Record.{event_size, event_of, read_record};
