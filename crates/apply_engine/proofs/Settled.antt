@@ -46,7 +46,7 @@ module _ (l : List Record) (t : ℕ) where
       ap (λ (x : List Record). get_or x n no_record) g.rows ∙ filled_past (λ i. expired (get_or l i no_record) t) l no_record n n (le_refl n) in
       record {
         rows = e ∙ rw (there, g.rows);
-        least = rw (e, best_stored row n (expired (get_or row n no_record) t), g.least);
+        least = ap (λ (b : Best). better b (get_or new n no_record) n) g.least ∙ ap (λ (b : Best). better b (get_or new n no_record) n) (sym (ap (λ (x : List Record). best_to x n) e ∙ best_stored row n (expired (get_or row n no_record) t)));
       }
 
 -- a late record is closed, and another stays
