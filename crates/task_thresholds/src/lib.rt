@@ -1,4 +1,6 @@
 // The thresholds of the rules: w, h and top of (m, K), on every pair of bytes.
+#![tactic(auto)]
+
 ghost use Rattle.std.specs.Prelude.{◌≡◌};
 ghost use Rattle.task_thresholds.specs.Thresholds.{w_of, h_of, top_of};
 
