@@ -1,4 +1,6 @@
 // The signed level of a task. No other code computes on signed numbers.
+#![tactic(auto)]
+
 ghost use Rattle.std.specs.Prelude.{◌≡◌};
 ghost use Rattle.task_levels.specs.Level.{class_of, raised, lowest, level_holds};
 
