@@ -1,4 +1,6 @@
 // Writing the record of an event: the value's own refusal, then 14; bytes past the record stay, and a refused write leaves all.
+#![tactic(auto)]
+
 ghost use Rattle.std.specs.Prelude.{◌≡◌, ◌++◌, ◌+◌, ◌≤◌, length, take, drop};
 ghost use Rattle.event_reading.specs.Record.{event_size};
 ghost use Rattle.number_writing.specs.Bytes.{bytes};
