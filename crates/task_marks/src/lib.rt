@@ -1,4 +1,6 @@
 // The outcomes of a task's last K jobs as marks in a 64-bit word: the newest in bit 0, 1 for a miss.
+#![tactic(auto)]
+
 pub mod counting;
 
 ghost use Rattle.std.specs.Prelude.{◌≡◌, ◌<◌, ◌^◌};
