@@ -8,7 +8,6 @@ use borrow.Author.Tests.{eq-eqb, ne_eqb}
 use lib.ListN.{length, get_or}
 use Rattle.laws.proofs.Tests.{impossible}
 use Rattle.table_reading.specs.declared.Row.{Row}
-use Rattle.table_reading.specs.declared.Row.TheVariants as Row
 use Rattle.table_rules.specs.declared.Task.{Task}
 use Rattle.table_rules.specs.Rules.{task_fault}
 use Rattle.table_reading.specs.Answers.{row_said}

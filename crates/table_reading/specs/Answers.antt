@@ -3,7 +3,6 @@ use Rattle.std.specs.Prelude.{[], ◌∷◌}
 use Rattle.laws.specs.Said.{Said}
 use Rattle.table_rules.specs.declared.Task.{Task}
 use Rattle.table_reading.specs.declared.Row.{Row}
-use Rattle.table_reading.specs.declared.Row.TheVariants as Row
 
 -- the task that is handed over
 abbrev pub row_said : Row → Said Task

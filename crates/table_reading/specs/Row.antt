@@ -5,7 +5,6 @@ use Rattle.number_reading.specs.Words.{number}
 use Rattle.table_rules.specs.declared.Task.{Task}
 use Rattle.table_rules.specs.Rules.{task_fault}
 use Rattle.table_reading.specs.declared.Row.{Row}
-use Rattle.table_reading.specs.declared.Row.TheVariants as Row
 
 -- the bytes of a table record
 abbrev pub task_size : ℕ

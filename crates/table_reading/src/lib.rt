@@ -1,4 +1,6 @@
 // Table bytes, 16 a task, and what they read as: one record, then the whole table.
+#![tactic(auto)]
+
 pub mod record;
 pub mod table;
 
