@@ -10,12 +10,10 @@ use lib.Dec.{leb}
 use Rattle.laws.proofs.Tests.{impossible, single}
 use Rattle.table_rules.specs.declared.Table.{Table}
 use Rattle.table_rules.specs.declared.Answer.{Answer}
-use Rattle.table_rules.specs.declared.Answer.TheVariants as Answer
 use Rattle.table_rules.specs.Answers.{number_of, position_of}
 use Rattle.table_rules.specs.Judging.{judged, first_fault}
 use Rattle.table_rules.proofs.Faults.{First, none_if, none_then, found_if, found_then}
 use Rattle.bound_search.specs.declared.Found.{Found}
-use Rattle.bound_search.specs.declared.Found.TheVariants as Found
 use Rattle.bound_search.specs.Answers.{found_number}
 use Rattle.bound_search.specs.Bound.{IsBound, NoBound, bound_of}
 use Rattle.bound_search.proofs.Meets.{bound_is, bound_none}

@@ -8,7 +8,6 @@ use Rattle.table_rules.specs.declared.Answer.{Answer}
 use Rattle.table_rules.specs.declared.Answer.TheVariants.{Accepted, Refused}
 use Rattle.table_rules.specs.Rules.{no_task}
 use Rattle.bound_one.specs.declared.Bound.{Bound}
-use Rattle.bound_one.specs.declared.Bound.TheVariants as Bound
 use Rattle.bound_one.specs.Asked.{one_answer}
 use Rattle.bound_all.specs.Asked.{all_answer, all_cells}
 use Rattle.bound_all.proofs.Computing.{bounds_compute}

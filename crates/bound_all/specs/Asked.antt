@@ -4,7 +4,6 @@ use Rattle.std.specs.Prelude.{ℕ, cond, List, leb, length}
 use Rattle.laws.specs.Stores.{filled}
 use Rattle.table_rules.specs.declared.Table.{Table}
 use Rattle.table_rules.specs.declared.Answer.{Answer}
-use Rattle.table_rules.specs.declared.Answer.TheVariants as Answer
 use Rattle.table_rules.specs.Judging.{judged, first_fault}
 use Rattle.bound_search.specs.Answers.{found_number, found_value}
 use Rattle.bound_search.specs.Bound.{bound_of}
