@@ -1,4 +1,6 @@
 // The events of the bench: three rules by which events are made one by one, in place.
+#![tactic(auto)]
+
 pub mod made;
 pub mod makers;
 
