@@ -29,7 +29,8 @@ row_of-row-requires c = good (goal.at.row_of-row-requires c).In-Accepted
 pub returns-in_default-found : goal.returns-in_default-found
 unfolding all_answer all_cells
 returns-in_default-found c =
-    rw (good (goal.at.returns-in_default-found c).In-Accepted, le-leb _ _ c.if-out-count.false, sym c.row_of-row.ensures.answer ∙ c.in_default-found.is) (c.in_default-found.is, refl)
+    let e = c.in_default-found.is in
+    rw (good (goal.at.returns-in_default-found c).In-Accepted, le-leb _ _ c.if-out-count.false, sym c.row_of-row.ensures.answer ∙ e) (e, refl)
 
 pub put-requires : goal.put-requires
 put-requires c =
