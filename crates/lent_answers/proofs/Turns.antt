@@ -108,7 +108,7 @@ module _ (l : List Record) (c : ℕ) (e : Event) where
           settled_row_lem (seat_ruled s e) p (accepted_by s e p (seat_ruled s e) refl f)
       go false h f = absurd (omega (arith, f))
 
--- ---- as the walks cite it: a test of the code is a Bool b with T b or T (not b)
+-- ---- as the proofs of the engine cite it: a test of the code is a Bool b with T b or T (not b)
 
 module _ (l : List Record) (c : ℕ) (e : Event) where
   abbrev here : Ruling

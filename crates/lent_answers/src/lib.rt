@@ -1,4 +1,6 @@
 // What an event comes to over a lent row, on values: the steps that the engine in place is made of.
+#![tactic(auto)]
+
 pub mod steps;
 
 use apply_events::Answer;
