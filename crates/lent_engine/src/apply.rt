@@ -67,7 +67,8 @@ fn apply_front(records: [Record; PLACES], count: usize, clock: u64, event: Event
     placed(turn, count, row)
 }
 
-// The same by value: its contract is the engine's own, and whoever calls it needs no walk.
+// The same by value: its contract is the engine's own. A state that counts more than 16 tasks is not sound.
+#[tactic(auto, using(crate::proofs::Fronts::over_most))]
 pub fn apply_of(state: State, event: Event) -> Applied
     ensures { result ≡ applied state event }
 {
