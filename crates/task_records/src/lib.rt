@@ -1,4 +1,6 @@
 // One task's record, by value, and what the closing of a job makes of it.
+#![tactic(auto)]
+
 pub mod closing;
 
 use table_rules::Task;
