@@ -1,4 +1,6 @@
 // Writing a table: the value's own refusal, then 14; bytes past the records stay, and a refused write leaves all.
+#![tactic(auto)]
+
 ghost use Rattle.std.specs.Prelude.{◌≡◌, ◌++◌, ◌+◌, ◌*◌, ◌≤◌, length, drop};
 ghost use Rattle.std.proofs.Math.Seq.{paste};
 ghost use Rattle.table_rules.specs.Limits.{most_tasks};
