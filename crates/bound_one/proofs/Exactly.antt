@@ -11,17 +11,14 @@ use lib.Dec.{ltb}
 use Rattle.laws.proofs.Tests.{impossible, single}
 use Rattle.table_rules.specs.declared.Table.{Table}
 use Rattle.table_rules.specs.declared.Answer.{Answer}
-use Rattle.table_rules.specs.declared.Answer.TheVariants as Answer
 use Rattle.table_rules.specs.Judging.{judged}
 use Rattle.table_rules.proofs.Exactly.{judged_at}
 use Rattle.table_rules.proofs.Ruling.{fault_among}
 use Rattle.bound_demand.specs.Above.{task_at}
 use Rattle.bound_search.specs.declared.Found.{Found}
-use Rattle.bound_search.specs.declared.Found.TheVariants as Found
 use Rattle.bound_search.specs.Bound.{IsBound, NoBound, bound_of}
 use Rattle.bound_search.proofs.Meets.{bound_is, bound_none}
 use Rattle.bound_one.specs.declared.Bound.{Bound}
-use Rattle.bound_one.specs.declared.Bound.TheVariants as Bound
 use Rattle.bound_one.specs.Answers.{bound_number, bound_position, bound_value}
 use Rattle.bound_one.specs.Asked.{or_thirteen, own_then_one, one_answer}
 

@@ -2,14 +2,11 @@
 use Rattle.std.specs.Prelude.{ℕ, cond, ltb}
 use Rattle.table_rules.specs.declared.Table.{Table}
 use Rattle.table_rules.specs.declared.Answer.{Answer}
-use Rattle.table_rules.specs.declared.Answer.TheVariants as Answer
 use Rattle.table_rules.specs.Judging.{judged}
 use Rattle.bound_search.specs.declared.Found.{Found}
-use Rattle.bound_search.specs.declared.Found.TheVariants as Found
 use Rattle.bound_search.specs.Answers.{found_number}
 use Rattle.bound_search.specs.Bound.{bound_of}
 use Rattle.bound_one.specs.declared.Bound.{Bound}
-use Rattle.bound_one.specs.declared.Bound.TheVariants as Bound
 
 -- the bound, or 13 at the position that has none
 abbrev pub or_thirteen : Found → ℕ → Bound
