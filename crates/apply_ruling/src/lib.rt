@@ -1,4 +1,6 @@
 // An event against its own task, on values: whether it is refused, and the task's record afterwards.
+#![tactic(auto)]
+
 pub mod judging;
 
 use task_records::Record;
