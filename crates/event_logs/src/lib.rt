@@ -1,4 +1,6 @@
 // A log is records of events one behind another: what of it reads, and what is left.
+#![tactic(auto)]
+
 ghost use Rattle.std.specs.Prelude.{◌≡◌};
 ghost use Rattle.event_logs.specs.Log.{readable, read_at, rest_of};
 ghost use Rattle.event_logs.specs.Ending.{ended_by};
