@@ -1,4 +1,6 @@
 // Runs of the bench, event by event: the events alone, and the engine by value over them.
+#![tactic(auto)]
+
 ghost use Rattle.std.specs.Prelude.{◌≡◌};
 ghost use Rattle.bench_sums.specs.Runs.{event_sum, run_sum};
 
