@@ -1,4 +1,6 @@
 // The response bound of the rules: the search for the smallest R whose demand is at most R.
+#![tactic(auto)]
+
 pub mod search;
 
 // What the search yields.
