@@ -1,4 +1,2 @@
--- What the walk of the run is made of.
-mod Cells
-mod Called
-mod Turned
+-- One event over the row of the tasks, as one event of the run.
+pub mod Turned

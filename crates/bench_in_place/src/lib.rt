@@ -1,4 +1,6 @@
 // The engine over a lent row, event by event: one row is held for the whole run, and the records of its tasks are lent at each event.
+#![tactic(auto)]
+
 ghost use Rattle.std.specs.Prelude.{◌≡◌, ◌≤◌};
 ghost use Rattle.table_rules.specs.Limits.{place_count};
 ghost use Rattle.bench_sums.specs.Folds.{folded, answer_code};
