@@ -1,4 +1,6 @@
 // Whether one record is sound at a clock: the rules' clauses, on any record. No sum is made that could wrap.
+#![tactic(auto)]
+
 mod counts;
 
 ghost use Rattle.std.specs.Prelude.{◌≡◌, ◌-◌};
