@@ -1,4 +1,6 @@
 // The line of a task before the events, put into the lent bytes at a place; the answer is the place behind it.
+#![tactic(auto)]
+
 ghost use Rattle.std.specs.Prelude.{◌≡◌};
 ghost use Rattle.text_writing.specs.Sheet.{sheet, puts};
 ghost use Rattle.listing_text.specs.TaskLines.{bound_text, task_line};
