@@ -1,4 +1,6 @@
 // Text in a lent slice: bytes and decimal numbers put at a place, and the place behind them. What does not fit is left out, and the place is then past the end.
+#![tactic(auto)]
+
 ghost use Rattle.std.specs.Prelude.{◌≡◌, ◌++◌};
 ghost use Rattle.text_writing.specs.Sheet.{sheet, put, puts};
 ghost use Rattle.text_writing.specs.Decimal.{decimal};
