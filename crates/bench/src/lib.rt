@@ -1,4 +1,6 @@
 // The bench: functions for C callers whose answers are compared with the rivals', and whose calls are timed.
+#![tactic(auto)]
+
 mod bounds;
 
 ghost use Rattle.std.specs.Prelude.{◌≡◌, length};
