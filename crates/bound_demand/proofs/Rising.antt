@@ -37,7 +37,8 @@ module _ (t : Table) (good : judged t ≡ Accepted) (k : ℕ) where
       add-le-add (le_refl (cost_of (task_at t k))) (total_mono (part_at t k a) (part_at t k b) t.count (λ i h. go i h (is_above t i k)))
     where
       go : (i : ℕ) → i < t.count → (above : Bool)
-          → cond above (part_of (cost_of (task_at t i)) (spacing_of (task_at t i)) a) 0 ≤ cond above (part_of (cost_of (task_at t i)) (spacing_of (task_at t i)) b) 0
+          → cond above (part_of (cost_of (task_at t i)) (spacing_of (task_at t i)) a) 0
+          ≤ cond above (part_of (cost_of (task_at t i)) (spacing_of (task_at t i)) b) 0
       go i h true = part_mono (cost_of (task_at t i)) (spacing_of (task_at t i)) a b (spacing_some t good i h) p
       go i h false = le_refl 0
 

@@ -1,4 +1,6 @@
 // The demand of the response bound: the tasks above a task, and what they ask for in a stretch of ticks.
+#![tactic(auto)]
+
 pub mod above;
 
 use table_rules::PLACES;
