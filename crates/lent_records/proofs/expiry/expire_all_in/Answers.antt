@@ -7,4 +7,7 @@ pub loop-i-init : goal.loop-i-init
 loop-i-init c = (omega arith, none_passed c.args.row.now c.args.time)
 
 pub loop-i-preserved : goal.loop-i-preserved
-loop-i-preserved c = (rw length-set (omega arith), one_passed c.args.row.now c.args.time c.loop-i.i c.loop-i.row c.loop-i.invariant.1 c.expire_in.new.of c.expire_in.ensures)
+loop-i-preserved c = (
+  rw length-set (omega arith),
+  one_passed c.args.row.now c.args.time c.loop-i.i c.loop-i.row c.loop-i.invariant.1 c.expire_in.new.of c.expire_in.ensures,
+)

@@ -39,7 +39,10 @@ pub loop-i-init : goal.loop-i-init
 loop-i-init c = (omega arith, none_yet c.args.row.now c.args.clock c.admits-holds.result c.admits-holds.ensures)
 
 pub loop-i-preserved : goal.loop-i-preserved
-loop-i-preserved c = (omega arith, next_sound c.args.row.now c.args.clock c.loop-i.i c.loop-i.holds c.sound_on-holds.result c.loop-i.invariant.1 c.sound_on-holds.ensures)
+loop-i-preserved c = (
+  omega arith,
+  next_sound c.args.row.now c.args.clock c.loop-i.i c.loop-i.holds c.sound_on-holds.result c.loop-i.invariant.1 c.sound_on-holds.ensures,
+)
 
 pub returns : goal.returns
 returns c =
