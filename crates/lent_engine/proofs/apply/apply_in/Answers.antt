@@ -1,5 +1,5 @@
--- `apply::apply_in` meets its contract: the row is lent to `rule_in`, shared, and where the event is accepted to `settle_in`; where it is refused, row and clock
--- stay as lent.
+-- `apply::apply_in` meets its contract: the row is lent to `rule_in`, shared, and where the event is accepted to `settle_in`; where it is refused, row and
+-- clock stay as lent.
 use Rattle.std.proofs.Math.Dec.{not_T, eqb}
 use Rattle.std.proofs.Math.Facts.{yes_eqb, eqb_yes}
 use Rattle.lent_answers.proofs.Turns.{accepted_some, says_accepted, says_refused}
