@@ -1,5 +1,5 @@
--- `run_in` meets its contract: a turn lends the cells to `made` and the first records to `apply_in`. The invariant: numbers, cells, row and sum are those after i
--- events of the run.
+-- `run_in` meets its contract: a turn lends the cells to `made` and the first records to `apply_in`. The invariant: numbers, cells, row and sum are those
+-- after i events of the run.
 use Rattle.std.proofs.Common.{◌-◌, ◌≤◌}
 use Rattle.bench_events.proofs.Making.{Making}
 use Rattle.bench_sums.proofs.Running.{Running}
