@@ -1,4 +1,6 @@
 // The line of a task as the events have left it, put into the lent bytes at a place; the answer is the place behind it.
+#![tactic(auto)]
+
 ghost use Rattle.std.specs.Prelude.{◌≡◌};
 ghost use Rattle.text_writing.specs.Sheet.{sheet, puts};
 ghost use Rattle.listing_text.specs.TaskLines.{counts_text, window_text, last_line};
