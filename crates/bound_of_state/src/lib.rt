@@ -1,4 +1,6 @@
 // Bounds asked of a state: 15 before all, then what its table answers. A refusal leaves the lent cells as they were.
+#![tactic(auto)]
+
 ghost use Rattle.std.specs.Prelude.{◌≡◌, ◌≤◌, length};
 ghost use Rattle.table_rules.specs.Limits.{place_count};
 ghost use Rattle.bound_of_state.specs.Asked.{table_in, one_of_state, all_of_state, cells_of_state};
