@@ -1,4 +1,6 @@
 // The line of an event, put into the lent bytes at a place; the answer is the place behind it.
+#![tactic(auto)]
+
 ghost use Rattle.std.specs.Prelude.{◌≡◌};
 ghost use Rattle.text_writing.specs.Sheet.{sheet, puts};
 ghost use Rattle.apply_events.specs.declared.Answer.TheVariants.{Run};
