@@ -20,7 +20,9 @@ module _ (l : List Record) (clock : ℕ) where
   each_at (suc n) e i h = go (ℕ_discrete i n) (each_at n (both_hold (each_holds l clock n) (sound_holds (get_or l n no_record) clock) e).0)
     where
       go : Dec (i ≡ n) → ((j : ℕ) → j < n → sound_holds (get_or l j no_record) clock ≡ true) → sound_holds (get_or l i no_record) clock ≡ true
-      go (yes q) k = ap (λ (j : ℕ). sound_holds (get_or l j no_record) clock) q ∙ (both_hold (each_holds l clock n) (sound_holds (get_or l n no_record) clock) e).1
+      go (yes q) k =
+          ap (λ (j : ℕ). sound_holds (get_or l j no_record) clock) q
+          ∙ (both_hold (each_holds l clock n) (sound_holds (get_or l n no_record) clock) e).1
       go (no q) k = k i (omega arith)
 
   pub each_if : (n : ℕ) → ((i : ℕ) → i < n → sound_holds (get_or l i no_record) clock ≡ true) → each_holds l clock n ≡ true

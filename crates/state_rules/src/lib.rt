@@ -1,4 +1,6 @@
 // The state of all tasks: fresh from a table, sound or not, and the choice it stands for.
+#![tactic(auto)]
+
 pub mod choice;
 pub mod fresh;
 pub mod sound;
