@@ -1,7 +1,8 @@
 # shellcheck shell=sh disable=SC2154
-# The toolchain makes code for x86-64 alone. On Arm its own clang compiles the same module once more, for Arm and at the same level.
-# The module is kept by a clang that stands before the toolchain's own, in a kit that is else made of links to the toolchain's parts.
-# Sourced by bench/run, at the repository's top, with `tools` set: the folder of the toolchain's compiler.
+# The toolchain makes code for x86-64 alone, and is itself for x86-64: another machine runs it through an emulator that its system starts. There
+# its own clang compiles the same module once more, for that machine and at the same level. The module is kept by a clang that stands before the
+# toolchain's own, in a kit that is else made of links to the toolchain's parts; rt finds its kit by where it stands, so rt is copied.
+# Sourced by bench/run, at the repository's top, with `kit` and `tools` set: the toolchain and the folder of its compiler.
 arm=$PWD/target/bench/arm
 
 # links FROM TO BUT: all that FROM holds as links in the new folder TO, without BUT
@@ -14,12 +15,10 @@ links() {
 
 # arm_kit: the kit of links, made again
 arm_kit() {
-    own=${tools%/toolchain}
-    home=${own%/on/*}
-    kit=$arm/kit/on/$(basename "$own")
-    rm -rf "$arm" && links "$home" "$arm/kit" on && links "$own" "$kit" toolchain && links "$tools" "$kit/toolchain" bin &&
-        links "$tools/bin" "$kit/toolchain/bin" clang || return 1
-    cat >"$kit/toolchain/bin/clang" <<END || return 1
+    rm -rf "$arm" && links "$kit" "$arm/kit" toolchain && links "$tools" "$arm/kit/toolchain" bin &&
+        links "$tools/bin" "$arm/kit/toolchain/bin" clang && rm "$arm/kit/bin" && links "$kit/bin" "$arm/kit/bin" rt &&
+        rm "$arm/kit/bin/rtlib.py" && cp "$kit/bin/rt" "$kit/bin/rtlib.py" "$arm/kit/bin" || return 1
+    cat >"$arm/kit/toolchain/bin/clang" <<END || return 1
 #!/bin/sh
 for word; do
     case \$word in
@@ -28,7 +27,7 @@ for word; do
 done
 exec "$tools/bin/clang" "\$@"
 END
-    chmod +x "$kit/toolchain/bin/clang"
+    chmod +x "$arm/kit/toolchain/bin/clang"
 }
 
 # as_text: a module as LLVM's text, with nothing done to it
@@ -37,15 +36,15 @@ as_text() { "$tools/bin/clang" --no-default-config --target=x86_64-unknown-linux
 # for_arm: the module on standard input with the target of this machine in place of x86-64
 for_arm() {
     : | "$tools/bin/clang" --no-default-config --target="$target" -S -emit-llvm -x c -o - - | grep '^target ' &&
-        sed -e '/^target /d' -e 's/ "target-cpu"="x86-64"//'
+        sed -e '/^target /d' -e 's/ "target-cpu"="x86-64[^"]*"//'
 }
 
 # arm_library NAME: proves the crate, and makes its library for this machine
 arm_library() {
     target=$(uname -m)-unknown-linux-gnu
-    rm -f "$arm/module.bc"
-    RATTLE_HOME=$arm/kit rt staticlib "$1" || return 1
+    rm -f "$arm/module.bc" "crates/$1/out/lib$1.a"
+    (cd "crates/$1" && "$arm/kit/bin/rt" lib) || return 1
     as_text <"$arm/module.bc" >"$arm/module.ll" && for_arm <"$arm/module.ll" >"$arm/$1.ll" &&
         "$tools/bin/clang" --no-default-config --target="$target" -O3 -fPIC -ffunction-sections -fdata-sections -c -x ir "$arm/$1.ll" -o "$arm/$1.o" &&
-        "$tools/bin/llvm-ar" rcs "$arm/lib$1.a" "$arm/$1.o"
+        "$tools/bin/llvm-ar" rcs "$libraries/lib$1.a" "$arm/$1.o"
 }

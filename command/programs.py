@@ -11,10 +11,11 @@ from .wrong import Wrong
 
 ROOT = pathlib.Path(__file__).resolve().parent.parent
 PROGRAM = "listing"
-BINARY = ROOT / "target/bin" / PROGRAM
+CRATE = ROOT / "crates" / PROGRAM
+BINARY = CRATE / "out" / PROGRAM
 STAMP = ROOT / "target/command" / PROGRAM
 INSTALL = "install the Rattle toolchain, and put its bin folder into PATH"
-WORD = "brumerola: proving and building the listing program; this takes 2 to 4 minutes the first time, and is done again only if the sources change\n"
+WORD = "brumerola: proving and building the listing program; this takes many minutes the first time, and is done again only if the sources change\n"
 
 
 def sources():
@@ -40,21 +41,19 @@ def built():
     rt = toolchain()
     sys.stderr.write(WORD)
     sys.stderr.flush()
-    if not BINARY.exists():
-        # rt asks whether the sources have changed, and not whether the program is still there
-        (ROOT / "target/stamp" / PROGRAM).unlink(missing_ok=True)
     prove(rt)
     STAMP.parent.mkdir(parents=True, exist_ok=True)
     STAMP.write_text(now)
 
 
 def prove(rt):
-    """Runs the proofs and the build. At a terminal the crates are counted as they come; what rt says is shown only if it fails."""
+    """Runs the proofs and the build, and the program once on nothing. At a terminal the crates are counted; what rt says is shown only if it fails."""
     said, proved = [], 0
-    with subprocess.Popen([rt, "check", PROGRAM], cwd=ROOT, stdin=subprocess.DEVNULL, stdout=subprocess.PIPE, stderr=subprocess.STDOUT, text=True) as run:
-        for line in run.stdout:
+    quiet = {"stdin": subprocess.DEVNULL, "stdout": subprocess.DEVNULL, "stderr": subprocess.PIPE}
+    with subprocess.Popen([rt, "run"], cwd=CRATE, text=True, **quiet) as run:
+        for line in run.stderr:
             said.append(line)
-            proved += " proved" in line and "crates" not in line
+            proved += line.startswith("logic=proved")
             if sys.stderr.isatty():
                 sys.stderr.write(f"\r{proved} crates proved")
     if sys.stderr.isatty():
@@ -65,12 +64,11 @@ def prove(rt):
 
 
 def start():
-    """What starts the program: nothing more on x86-64, and elsewhere the toolchain's own emulator and loader."""
+    """What starts the program: nothing more on x86-64, and elsewhere an emulator and the toolchain's loader."""
     if platform.machine() in ("x86_64", "amd64"):
         return []
-    tools = pathlib.Path(os.path.realpath(toolchain())).parent.parent / "on" / platform.machine() / "toolchain"
-    own = tools / "bin/qemu-x86_64"
-    emulator = str(own) if own.exists() else shutil.which("qemu-x86_64")
+    tools = pathlib.Path(os.path.realpath(toolchain())).parent.parent / "toolchain"
+    emulator = shutil.which("qemu-x86_64")
     if emulator is None:
         raise Wrong("brumerola: qemu-x86_64 is not here, and the listing program is for x86-64: install qemu-user")
     return [emulator, str(tools / "lib/ld-linux-x86-64.so.2"), "--library-path", str(tools / "lib")]

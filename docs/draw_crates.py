@@ -23,7 +23,8 @@ def crates():
         if line.startswith("#"):
             layers.append((re.split(r"[:,;.]", line.lstrip("# "))[0], []))
         elif ":" in line:
-            name, built_on = line.split(":")
+            head, built_on = line.split(":")
+            name = head.split()[0]
             deps[name] = built_on.split()
             layers[-1][1].append(name)
     return layers, {name: [x for x in below if x in deps] for name, below in deps.items()}

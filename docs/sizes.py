@@ -1,22 +1,16 @@
 #!/usr/bin/env python3
-"""sizes.py [LOG]: the table of docs/TIMES.md. For each crate, in the order of crates.txt: functions, lines of code, of definitions and of proof that are not empty, and
-must-fail edits. With what the gate wrote, LOG, also the seconds that each crate's check took."""
+"""sizes.py: the table of docs/TIMES.md. For each crate, in the order of crates.txt: functions, lines of code, of definitions and of proof that are not empty, and
+must-fail edits."""
 import pathlib
 import re
 import sys
 
 ROOT = pathlib.Path(__file__).resolve().parent.parent
-ORDER = re.findall(r"^(\w+):", (ROOT / "crates.txt").read_text(encoding="utf-8"), re.M)
+ORDER = re.findall(r"^(\w+)(?: staticlib)?:", (ROOT / "crates.txt").read_text(encoding="utf-8"), re.M)
 
 
 def lines(files):
     return sum(1 for f in files for x in f.read_text(encoding="utf-8").splitlines() if x.strip())
-
-
-def seconds(log):
-    """By crate, what the gate's log says."""
-    text = pathlib.Path(log).read_text(encoding="utf-8", errors="replace")
-    return {name: int(took) for name, took in re.findall(r"^rt: (\w+) proved \((\d+) s\)", text, re.M)}
 
 
 def row(name):
@@ -31,10 +25,9 @@ def row(name):
     ]
 
 
-def main(words):
-    took = seconds(words[0]) if words else {}
-    heads = ["seconds"] * bool(took) + ["functions", "code", "definitions", "proof", "edits"]
-    rows = {name: [took.get(name, 0)] * bool(took) + row(name) for name in ORDER}
+def main():
+    heads = ["functions", "code", "definitions", "proof", "edits"]
+    rows = {name: row(name) for name in ORDER}
     rows["all"] = [sum(column) for column in zip(*rows.values())]
     print(f"| crate | {' | '.join(heads)} |\n|{'---|' * (len(heads) + 1)}")
     for name, numbers in rows.items():
@@ -43,6 +36,6 @@ def main(words):
 
 
 try:
-    main(sys.argv[1:])
+    main()
 except OSError as wrong:
     sys.exit(f"sizes.py: {wrong.filename}: {wrong.strerror}")

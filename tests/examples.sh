@@ -5,7 +5,6 @@ cd "$(dirname "$(readlink -f "$0")")/.."
 . tests/machine.sh
 compiler
 top=$PWD
-kit=$(dirname "$(dirname "$(readlink -f "$(command -v rt)")")")
 work=$(mktemp -d)
 trap 'rm -rf "$work"' EXIT
 ran=0
@@ -71,10 +70,10 @@ prints() {
     cmp "$work/out" "$right"
 }
 
-# tool FOLDER NAME BODY: a program of that name in a folder of its own, beside the toolchain's emulator
+# tool FOLDER NAME BODY: a program of that name in a folder of its own, beside the toolchain's loader
 tool() {
     mkdir -p "$work/$1/bin"
-    ln -sfn "$kit/on" "$work/$1/on"
+    ln -sfn "$kit/toolchain" "$work/$1/toolchain"
     printf '#!/bin/sh\n%s\n' "$3" >"$work/$1/bin/$2"
     chmod +x "$work/$1/bin/$2"
 }

@@ -1,7 +1,9 @@
 # shellcheck shell=sh disable=SC2034
-# Programs of the toolchain are for x86-64. Sourced by what builds or starts one; it sets
+# Programs of the toolchain are for x86-64. Sourced at the repository's top by what builds or starts one; it sets
 #   run      what starts an x86-64 program that is linked whole: nothing on such a machine, an emulator on another
 #   start    what starts a program as the toolchain links it
+#   tools    the toolchain's compiler, loader and C library
+#   parts    what the toolchain links to the object file of a program
 # and `compiler` sets
 #   cc       what compiles C for x86-64, and `client` the rig's client
 # All install what is missing.
@@ -19,15 +21,10 @@ needs() {
     return 1
 }
 
-# The toolchain has an emulator of its own beside its compiler, and a loader with its C library.
-tools=$(dirname "$(dirname "$(readlink -f "$(command -v rt)")")")/on/$(uname -m)/toolchain
-emulator() {
-    if [ -x "$tools/bin/qemu-x86_64" ]; then
-        echo "$tools/bin/qemu-x86_64"
-    else
-        needs qemu-x86_64 qemu-user >&2 && command -v qemu-x86_64
-    fi
-}
+kit=$(dirname "$(dirname "$(readlink -f "$(command -v rt)")")")
+tools=$kit/toolchain
+parts="$kit/c/libos_c.a $kit/c/liblibc_c.a"
+emulator() { needs qemu-x86_64 qemu-user >&2 && command -v qemu-x86_64; }
 
 compiler() {
     if [ "$(uname -m)" = x86_64 ]; then
@@ -39,14 +36,17 @@ compiler() {
     fi
 }
 
-# program NAME: target/bin/NAME as the sources have it; rt asks whether they have changed, and not whether the program is still there
+# program NAME: crates/NAME/out/NAME as the sources have it, and its object file beside it, which rt does not look for; rt starts it too, on nothing
 program() {
-    { [ -x "target/bin/$1" ] && [ -f "target/obj/$1.o" ]; } || rm -f "target/stamp/$1"
-    rt check "$1"
+    [ -f "crates/$1/out/$1.o" ] || rm -f "crates/$1/out/$1.stamp"
+    (cd "crates/$1" && rt run >/dev/null </dev/null)
 }
 
+# library NAME: crates/NAME/out/libNAME.a as the sources have it
+library() { (cd "crates/$1" && rt lib </dev/null); }
+
 # client WORDS..: the rig's client over the static library, by these words of the compiler
-client() { "$cc" -std=c99 -Wall -Wextra -Werror -O2 -I include "$@" tests/c/rig.c target/staticlib/librig.a -lpthread; }
+client() { "$cc" -std=c99 -Wall -Wextra -Werror -O2 -I include "$@" tests/c/rig.c crates/rig/out/librig.a -lpthread; }
 
 if [ "$(uname -m)" = x86_64 ]; then
     run='' start=''

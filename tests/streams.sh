@@ -18,7 +18,7 @@ no_output='listing: standard output did not take the whole listing, so what it h
 # the program, by its status in $status and what it says in a file
 listing() {
     status=0
-    $start target/bin/listing 2>"$work/said" || status=$?
+    $start crates/listing/out/listing 2>"$work/said" || status=$?
 }
 
 # has CASE STATUS LINE: the run before left that status and that line, and no other
@@ -62,14 +62,15 @@ mkfifo "$work/pipe"
 
 # a disk that says only at closing that it is full: the program's own object file, over a close that fails
 printf 'int __wrap_close(int file);\nint __wrap_close(int file)\n{\n    return file < 0 ? 0 : -1;\n}\n' >"$work/late.c"
-"$cc" -std=c99 -Wall -Wextra -Werror -O2 -static -Wl,--wrap=close -o "$work/late" "$work/late.c" target/obj/listing.o
+# shellcheck disable=SC2086
+"$cc" -std=c99 -Wall -Wextra -Werror -O2 -static -Wl,--wrap=close -o "$work/late" "$work/late.c" crates/listing/out/listing.o $parts
 $run "$work/late" <"$input" >"$work/out" 2>"$work/said"
 status=0
 has 'full at closing' 0 "$no_output"
 
 # pipes that do not block: an empty one as input, and one as output that is full after 4,096 bytes of a longer text
 # shellcheck disable=SC2086
-python3 - "$no_input" "$no_output" $start target/bin/listing <<'END'
+python3 - "$no_input" "$no_output" $start crates/listing/out/listing <<'END'
 import fcntl, os, subprocess, sys
 no_input, no_output, program = sys.argv[1], sys.argv[2], sys.argv[3:]
 

@@ -17,6 +17,7 @@ def copied(folder):
     shutil.copy(COMMAND, folder)
     shutil.copytree(ROOT / "command", f"{folder}/command", ignore=shutil.ignore_patterns("__pycache__"))
     pathlib.Path(folder, "crates.txt").write_text("")
+    pathlib.Path(folder, "crates/listing").mkdir(parents=True)
 
 
 def script(path, words):
@@ -41,7 +42,7 @@ def look(ends):
         copied(folder)
         tools = f"{folder}/tools:{os.environ['PATH']}"
         ends("no rt", ended(folder, f"{folder}/none"), NO_RT)
-        script(f"{folder}/tools/rt", "echo 'rt: laws: a goal is open'; exit 1")
+        script(f"{folder}/tools/rt", "echo 'rt: laws: a goal is open' >&2; exit 1")
         ends("rt proves it not", last_line(ended(folder, tools)), NOT_BUILT)
         script(f"{folder}/tools/rt", "exit 0")
         ends("rt builds nothing", last_line(ended(folder, tools)), NOT_BUILT)

@@ -6,8 +6,8 @@ from there import ROOT, missing, read, texts
 RULES = ROOT / "docs/RULES.md"
 # a heading is cited as: Rules, "Choice"; several as: Rules, "Choice" and "Window"
 CITED = re.compile(r'\bRules,? ("[^"]+"(?:(?:, and |, | and )"[^"]+")*)')
-# a path with a word in capitals stands for others; documents are named in capitals too
-STANDS_FOR = re.compile(r"[A-Z]{2,}(?!\w*\.md)|/N+\.")
+# a path with a word in capitals stands for others; documents are named in capitals too. What rt makes is in a folder out/
+STANDS_FOR = re.compile(r"[A-Z]{2,}(?!\w*\.md)|/N+\.|/out/")
 ELSEWHERE = re.compile(r"\bdocuments?[ /-]\d+|\b\d\d-\w+\.md\b|\bthis paper\b", re.I)
 
 
@@ -39,9 +39,9 @@ def elsewhere():
 
 
 def paths_stand():
-    """Every path of the repository that a document names."""
+    """Every path of the repository that a document names, but for the page on what was before."""
     documents = [ROOT / "README.md", *sorted((ROOT / "docs").rglob("*.md")), *sorted((ROOT / "tests").rglob("*.md"))]
-    for document in documents:
+    for document in [d for d in documents if d != ROOT / "docs/PORT.md"]:
         for number, line in enumerate(read(document).splitlines(), 1):
             for path in re.findall(r"(?<=[`( ])(?:crates|docs|tests|examples|include|\.ci)/[\w./-]*\w(?=[`), :;./])", line + " "):
                 if not STANDS_FOR.search(path) and not (ROOT / path).exists():

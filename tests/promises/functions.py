@@ -6,6 +6,7 @@ from there import CRATES, ROOT, missing, read, sources
 # Public functions that break a rule, each with the rule (`requires`, `contract` or `equation`); docs/DECISIONS.md names each and says why.
 EXCEPTED = {
     "bound_search::search::bound_in": "requires",
+    "tally_rules::adding::put_in": "requires",
 }
 decisions = read(ROOT / "docs/DECISIONS.md")
 needed = set()
@@ -40,22 +41,26 @@ def fields(struct):
 
 def is_said(result, clauses):
     """Whether the answer stands on the left of an equation, whole or field by field; nothing is asked of a function that answers nothing."""
-    told = re.search(r"ensures \{ λ (\w+)\.", clauses)
-    if not result or not told or re.search(rf"\b{told[1]} ≡ ", clauses):
-        return bool(told)
-    return set(re.findall(rf"\b{told[1]} \.(\w+)\)? ≡ ", clauses)) >= fields(result) > set()
+    if not result or re.search(r"\bresult(\.now)? ≡ ", clauses):
+        return True
+    return set(re.findall(r"\bresult\.(\w+) ≡ ", clauses)) >= fields(result) > set()
+
+
+def has(kind, clauses):
+    """Whether there is a clause of this kind, with or without a name."""
+    return re.search(rf"^\s*{kind}( \w+)? \{{", clauses, re.M)
 
 
 def judge(function, parameters, result, clauses):
     """What one public function's contract has to say."""
-    if "requires {" in clauses:
+    if has("requires", clauses):
         breaks(function, "requires", "has a `requires`")
-    if "ensures {" not in clauses:
+    if not has("ensures", clauses):
         breaks(function, "contract", "has no contract")
     elif not is_said(result, clauses):
         breaks(function, "equation", "has a contract that is no equation for its answer")
     for lent in re.findall(r"(\w+): &mut", parameters):
-        if not re.search(rf"\({lent} \.exit\)[^×⌝]* ≡ ", clauses):
+        if not re.search(rf"\b{lent}\.new\b[^×}}]* ≡ ", clauses):
             missing.append(f"{function}: nothing is said of what {lent} holds afterwards")
 
 

@@ -8,7 +8,7 @@ LONGEST = 160
 
 def listed():
     """The crates of crates.txt are the folders of crates/."""
-    names = re.findall(r"^(\w+):", read(ROOT / "crates.txt"), re.M)
+    names = re.findall(r"^(\w+)(?: staticlib)?:", read(ROOT / "crates.txt"), re.M)
     for name in sorted(set(names) - crates):
         missing.append(f"crates.txt: crates/{name} is not there")
     for name in sorted(crates - set(names)):

@@ -1,16 +1,16 @@
 """The reading path of the README: its files are the definitions that the guarantee's statement goes back to, all of them, each behind those that it uses."""
 import re
 
-from there import CRATES, ROOT, missing, read
+from there import CRATES, ROOT, crates, missing, read
 
 START = "guarantee/specs/Guarantee"
-USED = r"^use Rattle·(\w+?)(?:·specs)?\.specs\.(?!declared\.)(\w+)"
+USED = r"^use Rattle\.(\w+)\.specs\.(?!declared\.)(\w+)"
 STEP = r"^\d+\. `(\w+)`: ((?:`\w+`(?:, )?)+)"
 
 
 def uses(file):
     """The files of definitions that one uses, as crate/specs/File."""
-    return [f"{crate}/specs/{name}" for crate, name in re.findall(USED, read(CRATES / f"{file}.antt"), re.M)]
+    return [f"{crate}/specs/{name}" for crate, name in re.findall(USED, read(CRATES / f"{file}.antt"), re.M) if crate in crates]
 
 
 def reached():

@@ -12,14 +12,20 @@ def read(path):
 
 
 def sources(kind, suffix):
-    return [p for p in CRATES.glob(f"*/{kind}/**/*{suffix}")]
+    return [p for p in CRATES.glob(f"*/{kind}/**/*{suffix}") if is_ours(p)]
+
+
+def is_ours(path):
+    """Whether no tool made the file: rt keeps what it makes in crates/NAME/out/."""
+    parts = path.relative_to(ROOT).parts
+    return "__pycache__" not in parts and not (parts[0] == "crates" and parts[2:3] == ("out",))
 
 
 def texts():
     """Every file of the repository that is text, with what it says."""
     for top in (".ci", "README.md", "brumerola", "command", "crates", "crates.txt", "docs", "examples", "include", "tests"):
         for path in sorted([ROOT / top, *(ROOT / top).rglob("*")]):
-            if path.is_file() and "__pycache__" not in path.parts:
+            if path.is_file() and is_ours(path):
                 try:
                     yield path, read(path)
                 except UnicodeDecodeError:
