@@ -1,4 +1,6 @@
 // The engine over a lent row, for C callers: a library of its own, since another engine beside it changes what the compiler puts in line.
+#![tactic(auto)]
+
 ghost use Rattle.std.specs.Prelude.{◌≡◌};
 ghost use Rattle.bench_sums.specs.Asked.{run_asked};
 
