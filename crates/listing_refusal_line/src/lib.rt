@@ -1,4 +1,6 @@
 // The lines that say what was not listed, put into the lent bytes at a place; the answer is the place behind it.
+#![tactic(auto)]
+
 ghost use Rattle.std.specs.Prelude.{◌≡◌};
 ghost use Rattle.text_writing.specs.Sheet.{sheet, puts};
 ghost use Rattle.listing_text.specs.RefusalLines.{too_long, found_at, refused_line, stop_line};
