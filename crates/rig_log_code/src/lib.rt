@@ -1,4 +1,6 @@
 // The code of a log on a state: what ended the reading, or the last event's answer.
+#![tactic(auto)]
+
 ghost use Rattle.std.specs.Prelude.{◌≡◌, ◌+◌, ◌^◌, ◌<◌};
 ghost use Rattle.rig_codes.specs.Code.{code_for, of_answer, log_case};
 
