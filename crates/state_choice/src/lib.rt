@@ -1,4 +1,6 @@
 // The choice, job by job: the open one that is least by class, then by D, then by table position.
+#![tactic(auto)]
+
 ghost use Rattle.std.specs.Prelude.{◌≡◌};
 ghost use Rattle.state_choice.specs.Choice.{wins, better};
 
