@@ -34,6 +34,7 @@ span_more r rs Absent empty = between here here only
   where
     only : (q : ℕ) → Among q (r ∷ []) → (r ≤ q) × (q ≤ r)
     only q here = (omega arith, omega arith)
+    only q (later m) = elim m [ ]
 span_more r rs (Between least most) (between a b h) = between (low (dec_le least r)) (high (dec_le r most)) each
   where
     low : Dec (least ≤ r) → Among (min least r) (r ∷ rs)

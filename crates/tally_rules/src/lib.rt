@@ -1,4 +1,6 @@
 // A tally of responses: fresh, whether it is sound, and one response more.
+#![tactic(auto)]
+
 pub mod adding;
 pub mod soundness;
 
