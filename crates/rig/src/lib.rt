@@ -1,4 +1,6 @@
 // The bench rig: one function for C callers, over table bytes and log bytes. include/brumerola.h declares it.
+#![tactic(auto)]
+
 ghost use Rattle.std.specs.Prelude.{◌≡◌};
 ghost use Rattle.rig_codes.specs.Code.{code_of};
 
