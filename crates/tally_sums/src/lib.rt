@@ -1,4 +1,6 @@
 // Two tallies of one task joined into one: 15, then 16; a refused joining answers the first tally as given.
+#![tactic(auto)]
+
 ghost use Rattle.std.specs.Prelude.{◌≡◌, cond};
 ghost use Rattle.tally_rules.specs.Tally.{cell_count};
 ghost use Rattle.tally_rules.specs.Sound.{TallySound};
