@@ -25,12 +25,17 @@ returns-then-of-class c =
 pub returns-then-clock-d : goal.returns-then-clock-d
 returns-then-clock-d c =
     let r = c.args.of in
-    rw (c.if-of.true, eq-eqb _ _ (c.if-of-class.false ∙ class-is (goal.at.returns-then-clock-d c).After-class), le-leb c.args.clock (r.last + r.task.d) (omega (arith, c.if-clock-d.true)))
+    rw (
+      c.if-of.true,
+      eq-eqb _ _ (c.if-of-class.false ∙ class-is (goal.at.returns-then-clock-d c).After-class),
+      le-leb c.args.clock (r.last + r.task.d) (omega (arith, c.if-clock-d.true)),
+    )
 
 pub returns-then-of : goal.returns-then-of
 returns-then-of c =
     let r = c.args.of in
-    rw (c.if-of.true, eq-eqb _ _ (c.if-of-class.false ∙ class-is (goal.at.returns-then-of c).After-class)) (least_less r.last r.task.d c.args.clock ∙ sym (same_test _))
+    rw (c.if-of.true, eq-eqb _ _ (c.if-of-class.false ∙ class-is (goal.at.returns-then-of c).After-class))
+    (least_less r.last r.task.d c.args.clock ∙ sym (same_test _))
 
 pub returns : goal.returns
 returns c = rw c.if-of.false

@@ -34,4 +34,7 @@ returns-then-of-least c =
 pub returns-else-of-least : goal.returns-else-of-least
 returns-else-of-least c =
     let r = c.args.of in
-    rw (ne_eqb _ 0 (above (goal.at.returns-else-of-least c).Else-class-eq0), le-leb (w_of r.task.m r.task.k) (r.run + 1) (omega (arith, c.w-least.ensures, c.if-of-least.false)))
+    rw (
+      ne_eqb _ 0 (above (goal.at.returns-else-of-least c).Else-class-eq0),
+      le-leb (w_of r.task.m r.task.k) (r.run + 1) (omega (arith, c.w-least.ensures, c.if-of-least.false)),
+    )
