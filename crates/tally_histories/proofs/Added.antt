@@ -1,9 +1,9 @@
 -- What one event adds: in a sound state an accepted completion of task i, and no other event, closes a met job of task i, with the response that is tallied, and
 -- that is at most D. By what a record becomes.
-use Prim.Native.Nat.{ℕ, ◌+◌, ◌-◌, ◌≤◌, ◌<◌}
-use mathlib.Core.Path.{◌≡◌, refl, sym, ap, subst, ◌∙◌}
+use Prim.Native.Nat.{ℕ, ◌≤◌, ◌<◌}
+use mathlib.Core.Path.{◌≡◌, refl, sym, subst, ◌∙◌}
 use mathlib.Core.Bool.{Bool, true, false, cond}
-use mathlib.Core.List.{List, [], ◌∷◌}
+use mathlib.Core.List.{List, ◌∷◌}
 use native.Mathlib.Decide.{ℕ_discrete}
 use native.Mathlib.Omega.{arith}
 use borrow.Author.Tests.{eqb-true, eq-eqb, ne_eqb}
@@ -16,7 +16,6 @@ use Rattle.event_reading.specs.Event.{a_completion}
 use Rattle.task_records.specs.declared.Record.{Record}
 use Rattle.task_records.specs.Closing.{closed}
 use Rattle.task_records.proofs.Steps.{closed_idle}
-use Rattle.task_steps.specs.Opening.{expired}
 use Rattle.task_steps.specs.Own.{reopened}
 use Rattle.state_rules.specs.declared.State.{State}
 use Rattle.state_rules.specs.State.{record_at}
@@ -28,11 +27,9 @@ use Rattle.run_histories.specs.History.{Job, accepts, closes, completes, closed_
 use Rattle.run_histories.proofs.Steps.{Expired, over, stays, expiry, expired_open}
 use Rattle.run_histories.proofs.Closes.{jobs_with, closes_stays, closes_idle}
 use Rattle.run_histories.proofs.Taken.{passed, Becomes, same, passes, reopens, finishes, becomes}
-use Rattle.tally_rules.specs.declared.Tally.{Tally}
 use Rattle.tally_rules.specs.declared.Tallies.{Tallies}
 use Rattle.tally_rules.specs.Tally.{no_tally, tally_at, taken}
-use Rattle.tally_rules.specs.Adding.{fits}
-use Rattle.tally_histories.specs.Events.{response_of, closes_met, response_at, tallied, admits}
+use Rattle.tally_histories.specs.Events.{response_of, closes_met, response_at, tallied}
 use Rattle.tally_histories.specs.Responses.{responses_of}
 
 -- the event, accepted or not, is an accepted completion of task i

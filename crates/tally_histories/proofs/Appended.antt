@@ -1,6 +1,6 @@
 -- Two logs one behind the other: if the first is read to its end, their events and their endings follow each other, and if it stops at a whole record, the second
 -- is not looked at. A record reads by its own 20 bytes, and those behind it do not matter; by induction on the records.
-use Prim.Native.Nat.{ℕ, zero, suc, ◌+◌, ◌*◌, ◌≤◌, ◌<◌}
+use Prim.Native.Nat.{ℕ, ◌+◌, ◌*◌, ◌≤◌, ◌<◌}
 use mathlib.Core.Path.{◌≡◌, refl, sym, ap, ◌∙◌}
 use mathlib.Core.List.{List, [], ◌∷◌, ◌++◌}
 use native.Mathlib.Omega.{arith}
@@ -11,10 +11,9 @@ use Rattle.event_reading.specs.declared.Event.{Event}
 use Rattle.event_reading.specs.declared.Reading.{Reading}
 use Rattle.event_reading.specs.declared.Reading.TheVariants as R
 use Rattle.event_reading.specs.Record.{marks, event_of, read_record}
-use Rattle.event_logs.specs.declared.Ending.{Ending}
 use Rattle.event_logs.specs.Log.{readable, rest_of, events_of}
 use Rattle.event_logs.specs.Ending.{ended_by, ending_of}
-use Rattle.event_logs.proofs.Records.{Goes, Stops, goes_of, by_records, readable-fits}
+use Rattle.event_logs.proofs.Records.{Goes, by_records}
 use Rattle.event_logs.proofs.Logs.{events_more, events_none, events_empty, events_length}
 use Rattle.tally_histories.specs.Chunks.{shifted}
 

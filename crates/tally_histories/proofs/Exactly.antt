@@ -17,7 +17,7 @@ use Rattle.laws.proofs.Tests.{Tells, tells, tells_true, tells_false, impossible}
 use Rattle.event_logs.specs.Log.{events_of}
 use Rattle.event_logs.specs.Ending.{ending_of}
 use Rattle.state_rules.specs.declared.State.{State}
-use Rattle.state_rules.specs.Sound.{StateSound, state_holds}
+use Rattle.state_rules.specs.Sound.{state_holds}
 use Rattle.state_rules.proofs.Sounding.{state_tells}
 use Rattle.run_histories.specs.History.{run_state}
 use Rattle.tally_rules.specs.declared.Answer.TheVariants.{Accepted}
@@ -26,7 +26,7 @@ use Rattle.tally_rules.specs.declared.Tallies.{Tallies}
 use Rattle.tally_rules.specs.Tally.{no_tally, tally_at}
 use Rattle.tally_histories.specs.declared.Reported.{Reported}
 use Rattle.tally_histories.specs.Events.{tallies_after, all_admit}
-use Rattle.tally_histories.specs.Sound.{TalliesSound, AllWhole, Carried, Beside, tallies_hold, carried_by}
+use Rattle.tally_histories.specs.Sound.{AllWhole, Beside, tallies_hold, carried_by}
 use Rattle.tally_histories.specs.Report.{withheld, given, fault_beside, tally_log, reported}
 use Rattle.tally_histories.specs.Responses.{tally_after, run_of, AllWithin}
 use Rattle.tally_histories.specs.Reports.{historied, Reports, unsound, unsound_tally, other_d, passes, reports}

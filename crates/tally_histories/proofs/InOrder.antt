@@ -5,12 +5,11 @@ use mathlib.Core.List.{List, [], ◌∷◌, ◌++◌, reverse, reverse-cons, app
 use Rattle.laws.proofs.Tests.{same_test}
 use Rattle.event_reading.specs.declared.Event.{Event}
 use Rattle.state_rules.specs.declared.State.{State}
-use Rattle.apply_events.specs.Apply.{applied}
 use Rattle.apply_events.specs.Log.{state_after}
 use Rattle.run_histories.specs.History.{run_state}
 use Rattle.run_histories.proofs.InOrder.{onto, told_in_order}
 use Rattle.tally_rules.specs.declared.Tallies.{Tallies}
-use Rattle.tally_histories.specs.Events.{tallied, admits, tallies_after, all_admit}
+use Rattle.tally_histories.specs.Events.{admits, tallies_after, all_admit}
 use Rattle.tally_histories.proofs.Runs.{run_tallies, run_admits}
 
 onto_is : (es past : List Event) → onto es past ≡ reverse es ++ past

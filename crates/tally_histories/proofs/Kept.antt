@@ -13,7 +13,7 @@ use Rattle.tally_rules.specs.declared.Tally.{Tally}
 use Rattle.tally_rules.specs.declared.Tallies.{Tallies}
 use Rattle.tally_rules.specs.Tally.{tally_at}
 use Rattle.tally_rules.specs.Sound.{TallySound}
-use Rattle.tally_rules.specs.Responses.{Whole, UpTo}
+use Rattle.tally_rules.specs.Responses.{UpTo}
 use Rattle.tally_rules.proofs.Over.{over_d, over_sound}
 use Rattle.tally_histories.specs.Events.{tallies_after, all_admit}
 use Rattle.tally_histories.specs.Sound.{AllWhole, Beside}

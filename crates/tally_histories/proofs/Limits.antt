@@ -1,11 +1,10 @@
 -- All that a run adds fits exactly where the tallies of its met jobs are within the limits: no addition takes anything back, so what is within in the end was so
 -- all along. By induction on the events, newest first.
 use Prim.Native.Nat.{ℕ, ◌≤◌, ◌<◌}
-use mathlib.Core.Path.{◌≡◌, refl, sym, ap, subst, ◌∙◌}
-use mathlib.Core.Bool.{Bool, true, false, cond}
+use mathlib.Core.Path.{◌≡◌, refl, sym, ap, subst}
+use mathlib.Core.Bool.{Bool, true, false}
 use mathlib.Core.List.{List, [], ◌∷◌}
 use mathlib.Core.Logic.{◌↔◌}
-use native.Mathlib.Omega.{arith}
 use borrow.Author.Tests.{eqb-true, eq-eqb}
 use lib.Dec.{eqb}
 use lib.ListN.{length}
@@ -24,7 +23,7 @@ use Rattle.tally_rules.proofs.Kept.{sound_within}
 use Rattle.tally_rules.proofs.Over.{over_d, over_whole}
 use Rattle.tally_rules.proofs.Fitting.{fits_within, within_before, within_fits}
 use Rattle.tally_histories.specs.Events.{response_of, closes_met, response_at, admits}
-use Rattle.tally_histories.specs.Sound.{deadline_at, AllWhole, Beside}
+use Rattle.tally_histories.specs.Sound.{AllWhole, Beside}
 use Rattle.tally_histories.specs.Responses.{responses_of, tally_after, AllWithin}
 use Rattle.tally_histories.proofs.Added.{adds, met_task, in_time}
 use Rattle.tally_histories.proofs.Beside.{rooms}

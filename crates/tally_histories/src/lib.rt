@@ -1,4 +1,6 @@
 // The tallies of a log's responses: what a report answers. No code but this type: the rest stands in specs/ and proofs/.
+#![tactic(auto)]
+
 use event_logs::Ending;
 use state_rules::State;
 use tally_rules::Tallies;
