@@ -1,4 +1,6 @@
 // One line per task, of a table and of a state: all lines of a kind put into the lent bytes from a place on; the answer is the place behind them.
+#![tactic(auto)]
+
 ghost use Rattle.std.specs.Prelude.{◌≡◌, min};
 ghost use Rattle.table_rules.specs.Limits.{place_count};
 ghost use Rattle.text_writing.specs.Sheet.{sheet, puts};
