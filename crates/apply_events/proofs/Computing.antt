@@ -14,5 +14,6 @@ use Rattle.apply_events.specs.Apply.{applied}
 
 -- `applied` of a state and an event that are written out
 unfoldable pub event_computes : Unit {0}
-unfolding applied ruled bar_of own_fault own_after closed expired opened filled best_to sound_holds each_holds state_holds task_fault fault_of zeroes ones ones_in
+unfolding applied ruled bar_of own_fault own_after closed expired opened filled best_to sound_holds each_holds state_holds task_fault fault_of zeroes
+    ones ones_in
 event_computes = tt

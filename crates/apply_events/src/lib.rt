@@ -1,4 +1,6 @@
 // What an event or a log does to a state: the answer, and the state beside it. No code but these types: the rest stands in specs/ and proofs/.
+#![tactic(auto)]
+
 use event_logs::Ending;
 use state_rules::State;
 
