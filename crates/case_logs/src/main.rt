@@ -1,10 +1,13 @@
 // Prints what the library says of each log of standard input. A log stands behind its size in two bytes.
+#![tactic(auto)]
+
 mod reads;
 
-use libc::STDIN_FILENO;
+use case_frames::input::read_full;
+use std::io;
 
-fn main() {
-    let mut input = io::large_buffer();
-    let size = io::read_full(STDIN_FILENO, &mut input);
-    reads::each(&input[..size]);
+fn main(rt: HostRuntime) -> io::Result<()> {
+    let mut input = [0u8; 65536];
+    let size = read_full(rt.stdin(), &mut input)?;
+    reads::each(&rt, &input[..size])
 }

@@ -2,6 +2,7 @@
 use case_frames::print::{number, row, text, wide};
 use event_reading::{Event, Reading};
 use event_writing::Writing;
+use std::io;
 use std::num::wrapping_add_u64;
 
 // What the readable records add up to, with how many are the same bytes once they are written again.
@@ -75,9 +76,10 @@ fn sums_of(log: &[u8]) -> Sums {
 }
 
 // What reading says at record i, in a line.
-fn place(log: &[u8], i: usize) {
+fn place(rt: &impl Print, log: &[u8], i: usize) -> io::Result<()> {
     match event_logs::event_at(log, i) {
         Reading::Event(event) => row(
+            rt,
             b"event ",
             i as u64,
             wide(event.kind),
@@ -85,20 +87,21 @@ fn place(log: &[u8], i: usize) {
             event.job,
             event.time,
         ),
-        Reading::End => text(b"end\n"),
-        Reading::Refused(n) => row(b"refused ", i as u64, wide(n), 0, 0, 0),
+        Reading::End => text(rt, b"end\n"),
+        Reading::Refused(n) => row(rt, b"refused ", i as u64, wide(n), 0, 0, 0),
     }
 }
 
 // The first records, and every hundredth.
-fn places(log: &[u8], count: usize) {
+fn places(rt: &impl Print, log: &[u8], count: usize) -> io::Result<()> {
     let mut i: usize = 0;
     while i < count {
         if (i < 6) | (i % 100 == 99) {
-            place(log, i);
+            place(rt, log, i)?;
         }
         i += 1;
     }
+    Ok(())
 }
 
 // Where the reading stopped, from the first byte of the log.
@@ -107,38 +110,39 @@ fn offset(log: &[u8]) -> usize {
     log.len() - rest.len()
 }
 
-fn stop(log: &[u8]) {
+fn stop(rt: &impl Print, log: &[u8]) -> io::Result<()> {
     match event_reading::read(event_logs::rest(log)) {
         Reading::Refused(n) => {
-            number(b" stop ", wide(n));
-            number(b" at ", offset(log) as u64);
+            number(rt, b" stop ", wide(n))?;
+            number(rt, b" at ", offset(log) as u64)?;
         }
-        Reading::End => text(b" end"),
-        Reading::Event(_) => text(b" a record that reads"),
+        Reading::End => text(rt, b" end")?,
+        Reading::Event(_) => text(rt, b" a record that reads")?,
     }
-    text(b"\n");
+    text(rt, b"\n")
 }
 
-fn one(k: u64, log: &[u8]) {
+fn one(rt: &impl Print, k: u64, log: &[u8]) -> io::Result<()> {
     let count = event_logs::count(log);
-    number(b"log ", k);
-    number(b" records ", count as u64);
-    stop(log);
-    places(log, count);
-    place(log, count);
-    place(log, 18446744073709551615);
+    number(rt, b"log ", k)?;
+    number(rt, b" records ", count as u64)?;
+    stop(rt, log)?;
+    places(rt, log, count)?;
+    place(rt, log, count)?;
+    place(rt, log, 18446744073709551615)?;
     let sums = sums_of(log);
     row(
-        b"sums ", sums.kinds, sums.tasks, sums.jobs, sums.times, sums.same,
-    );
+        rt, b"sums ", sums.kinds, sums.tasks, sums.jobs, sums.times, sums.same,
+    )
 }
 
-pub fn each(all: &[u8]) {
+pub fn each(rt: &impl Print, all: &[u8]) -> io::Result<()> {
     let mut at: usize = 0;
     let mut k: u64 = 1;
     while at < all.len() {
-        one(k, case_frames::part(all, at));
+        one(rt, k, case_frames::part(all, at))?;
         k = wrapping_add_u64(k, 1);
         at = case_frames::end(all, at);
     }
+    Ok(())
 }
