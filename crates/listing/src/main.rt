@@ -1,10 +1,14 @@
 // The listing program: standard input, read to one byte past the limit, and its listing on standard output in one piece.
-// A program cannot set its exit status, so a line on standard error says what was lost; where nothing was, there is none.
+// Its exit status is 0 whatever was lost, so a line on standard error says that; where nothing was lost, there is none.
+#![tactic(auto)]
+
 ghost use Rattle.std.specs.Prelude.{length};
 ghost use Rattle.listing.specs.Taken.{Within};
 
-use libc::{STDERR_FILENO, STDIN_FILENO, STDOUT_FILENO};
 use listing_of_input::{Listing, ROOM, list};
+use std::fs::{self, OpenFile, OpenOptions};
+use std::io::{ErrorKind, Read, Stdin};
+use std::rt::Files;
 
 // How many bytes were read until the input ended or its bytes were full; or a read failed, and nobody knows what was to come.
 #[derive(Clone, Copy)]
@@ -13,16 +17,14 @@ enum Taken {
     Failed,
 }
 
-fn read_in(input: &mut [u8]) -> Taken
+fn read_in(mut stdin: Stdin, input: &mut [u8]) -> Taken
     ensures { Within result (length input.new) }
 {
     let mut done: usize = 0;
     while done < input.len() {
-        let got = libc::read(STDIN_FILENO, &mut input[done..]);
-        if got < 0 {
+        let Ok(more) = stdin.read(&mut input[done..]) else {
             return Taken::Failed;
-        }
-        let more = io::count(got, &input[done..]);
+        };
         if more == 0 {
             break;
         }
@@ -31,20 +33,45 @@ fn read_in(input: &mut [u8]) -> Taken
     Taken::Whole(done)
 }
 
-// The text is written and its file closed, since a disk behind a network may say only then that it is full.
-fn printed(text: &[u8]) -> bool {
-    if !io::write_all(STDOUT_FILENO, text) {
-        return false;
+const STDOUT: &str = "/dev/stdout";
+
+// Whether the disk has taken what is in standard output, where that is a file.
+fn stored(rt: &impl Files) -> bool {
+    let Ok(found) = fs::metadata(rt, STDOUT) else {
+        return true;
+    };
+    if !found.is_file() {
+        return true;
     }
-    libc::close(STDOUT_FILENO) == 0
+    let Ok(file) = OpenOptions::new().write(true).open(rt, STDOUT) else {
+        return true;
+    };
+    match file.sync_data() {
+        Ok(()) => true,
+        // a file that has no disk behind it
+        Err(e) => e.kind() == ErrorKind::InvalidInput,
+    }
 }
 
-fn main() {
+// The text is written and its file synced, since a disk behind a network may say only then that it is full.
+fn printed(rt: &(impl Print + Files), text: &[u8]) -> bool {
+    if rt.write_all(text).is_err() {
+        return false;
+    }
+    stored(rt)
+}
+
+// What was lost; where even that can't be written, nothing is left to say it on.
+fn told(rt: &impl Eprint, words: &str) {
+    let _ = rt.eprintln(words);
+}
+
+fn main(rt: HostRuntime) {
     let mut input = [0u8; 65537];
-    let Taken::Whole(size) = read_in(&mut input) else {
-        io::write_all(
-            STDERR_FILENO,
-            b"listing: standard input could not be read to its end, so nothing is listed; give it a file or a pipe\n",
+    let Taken::Whole(size) = read_in(rt.stdin(), &mut input) else {
+        told(
+            &rt,
+            "listing: standard input could not be read to its end, so nothing is listed; give it a file or a pipe",
         );
         return;
     };
@@ -53,10 +80,10 @@ fn main() {
     let Listing::Text(end) = list(&input[..size], &mut text) else {
         return;
     };
-    if !printed(&text[..end]) {
-        io::write_all(
-            STDERR_FILENO,
-            b"listing: standard output did not take the whole listing, so what it has is cut; open it or give it room\n",
+    if !printed(&rt, &text[..end]) {
+        told(
+            &rt,
+            "listing: standard output did not take the whole listing, so what it has is cut; open it or give it room",
         );
     }
 }
