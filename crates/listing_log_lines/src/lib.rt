@@ -1,4 +1,6 @@
 // The lines of a log: one per event, and the one that says where the reading stopped.
+#![tactic(auto)]
+
 ghost use Rattle.std.specs.Prelude.{◌≡◌};
 ghost use Rattle.event_logs.specs.Log.{events_of};
 ghost use Rattle.event_logs.specs.Ending.{ending_of};
