@@ -4,8 +4,8 @@ use Prim.Native.Nat.{ℕ}
 use mathlib.Core.List.{List, [], ◌∷◌}
 use lib.ListN.{length}
 use seplogic.Ra.Ura.{Ura}
-use seplogic.Ra.TreeShare.{full_share}
-use mir.Syntax.{Name, Place, Opd as Operand, Body, seq, call, named}
+use base.Fraction.{full_share}
+use mir.Syntax.{Callee, Place, Opd as Operand, Body, seq, call, named}
 use mir.Val.{Val, vptr}
 use base.Logic.{SProp, ent, emp, ex, sep}
 use base.Fml.{GName, Fml, ftrue, flft, flent, fres, fdead}
@@ -22,7 +22,8 @@ use types.Run.{Opds}
 use denote.RattleType.{RattleType}
 use denote.Laws.{Is, shows}
 use denote.Memory.{mem, shares}
-use denote.Ref.{MutBor, MutRef}
+use denote.Copied.{Copied}
+use denote.Ref.{Bor, MutBor, MutRef}
 use denote.Slice.{slice_val, MutSlice, ShrSlice, Room, finally}
 use denote.Index.{row}
 use denote.Lend.{Held, lends_ref, ref_back}
@@ -35,6 +36,10 @@ use Rattle.lent_walks.proofs.Rows.{shares_row, shared_back, lends_row, row_back}
 -- what lies at (b, o), lent under the name δ
 abbrev pub under : {X : Type 0} → GName → X → ℕ → ℕ → MutBor X
 under δ x b o = record { ref_ptr = (b, o); ghost_name = δ; now = x }
+
+-- the same, lent by `&`
+abbrev pub shown : {X : Type 0} → X → ℕ → ℕ → Bor X
+shown x b o = record { ref_ptr = (b, o); now = x }
 
 -- what is lent: what lies there, what the reference owns for a lifetime under a name, the lender's part, what says the last value, and what then lies there
 pub record Loan {M : Type 1} {𝓤 : Ura M} (𝓛 : Logic 𝓤) (Z : Type 0) : Type 1 where
@@ -76,25 +81,38 @@ module _ {M : Type 1} {𝓤 : Ura M} (𝓛 : Logic 𝓤) (R : RattleType) where
         back = λ ν δ zs. row_back 𝓛 R (named 0) (ν ∷ []) ys b o δ zs;
       }
 
-  -- a row, by `&`: it comes back as it was
-  abbrev pub shared_row : (ys : List R.Denot) → ℕ → ℕ → Room R (length ys) → Loan 𝓛 (Unit {0})
-  shared_row ys b o room =
+  -- a row of a type that can be copied, by `&`, which has no name: it comes back as it was
+  abbrev pub shared_row : Copied 𝓛 R → (ys : List R.Denot) → ℕ → ℕ → Room R (length ys) → Loan 𝓛 (Unit {0})
+  shared_row copied ys b o room =
       record {
         here = row R full_share ys b o;
-        own = λ ν δ. (ShrSlice (named 0) (ν ∷ []) R).own_val (under δ ys b o) (slice_val (b, o) (length ys) ∷ []);
+        own = λ ν δ. (ShrSlice (named 0) (ν ∷ []) R).own_val (shown ys b o) (slice_val (b, o) (length ys) ∷ []);
         part = λ δ. (arr_parts (shares R) (length ys)).part full_share ys b o;
         last = λ δ z. ftrue;
         after = λ z. row R full_share ys b o;
-        lends = λ ν. shares_row 𝓛 R (named 0) (ν ∷ []) ys b o room;
+        lends = λ ν. given ν ys b o room;
         back = λ ν δ z. kept ν ys b o;
       }
     where
+      given : (ν : ℕ) (ys : List R.Denot) (b o : ℕ) → Room R (length ys) → ent 𝓤 (sem 𝓛 (row R full_share ys b o))
+          (H.⇛ (ex 𝓤
+          (λ (δ : GName). sep 𝓤 (sem 𝓛 ((ShrSlice (named 0) (ν ∷ []) R).own_val (shown ys b o) (slice_val (b, o) (length ys) ∷ [])))
+          (A.lent (ν ∷ []) ((arr_parts (shares R) (length ys)).part full_share ys b o)))))
+      given ν ys b o room =
+          qed 𝓛 (‵ (row R full_share ys b o) ∷ []) ∵ updating ! $
+          use1 𝓛
+          (later (‵ ((ShrSlice (named 0) (ν ∷ []) R).own_val (shown ys b o) (slice_val (b, o) (length ys) ∷ []))
+          ⊛ ‵ (flent (ν ∷ []) ((arr_parts (shares R) (length ys)).part full_share ys b o))))
+          (shares_row 𝓛 R (named 0) (ν ∷ []) ys b o copied room) $ await ! tt $ split ! $ at_once ! $
+          show ! (λ (δ : GName). sep 𝓤 (sem 𝓛 ((ShrSlice (named 0) (ν ∷ []) R).own_val (shown ys b o) (slice_val (b, o) (length ys) ∷ [])))
+          (A.lent (ν ∷ []) ((arr_parts (shares R) (length ys)).part full_share ys b o))) 0 $ done !
+
       kept : (ν : ℕ) (ys : List R.Denot) (b o : ℕ)
           → ent 𝓤 (sep 𝓤 (A.dead (ν ∷ [])) (sep 𝓤 (A.lent (ν ∷ []) ((arr_parts (shares R) (length ys)).part full_share ys b o)) (emp 𝓤)))
           (H.⇛ (sem 𝓛 (row R full_share ys b o)))
       kept ν ys b o =
-          qed 𝓛 (‵ (fdead (ν ∷ [])) ∷ ‵ (flent (ν ∷ []) ((arr_parts (shares R) (length ys)).part full_share ys b o)) ∷ ‵ ftrue ∷ []) ∵ move ! (2 ∷ []) $ drop ! $
-          by ! (shared_back 𝓛 R (named 0) (ν ∷ []) ys b o)
+          qed 𝓛 (‵ (fdead (ν ∷ [])) ∷ ‵ (flent (ν ∷ []) ((arr_parts (shares R) (length ys)).part full_share ys b o)) ∷ ‵ ftrue ∷ []) ∵
+          move ! (2 ∷ []) $ drop ! $ by ! (shared_back 𝓛 R (named 0) (ν ∷ []) ys b o)
 
 -- what a callee's `post` comes to: the token comes back, with some result r and some last value z, and φ r z
 abbrev pub GivesBack : {M : Type 1} {𝓤 : Ura M} (𝓛 : Logic 𝓤) {Z : Type 0} → Loan 𝓛 Z → (c : Contract 𝓤) → (ℕ → GName → c.Ghost)
@@ -102,7 +120,7 @@ abbrev pub GivesBack : {M : Type 1} {𝓤 : Ura M} (𝓛 : Logic 𝓤) {Z : Type
 GivesBack {𝓤 = 𝓤} 𝓛 {Z} l c x D φ = (ν : ℕ) (δ : GName) (v : Val) → ent 𝓤 (c.post (x ν δ) v)
     (𝓛.H.⇛ (ex 𝓤
     (λ (r : D.Denot). ex 𝓤 (λ (z : Z). sep 𝓤 (𝓛.A.lft (ν ∷ []) full_share)
-    (sep 𝓤 (sem 𝓛 (D.own r (v ∷ []))) (sep 𝓤 (sem 𝓛 (l.last δ z)) (fact 𝓤 (φ r z))))))))
+    (sep 𝓤 (sem 𝓛 (D.own_val r (v ∷ []))) (sep 𝓤 (sem 𝓛 (l.last δ z)) (fact 𝓤 (φ r z))))))))
 
 module _ {M : Type 1} {𝓤 : Ura M} {𝓛 : Logic 𝓤} {K : Type 0} {Γ : List (Item 𝓤)} {Z : Type 0} where
   -- before the call, and after it
@@ -122,13 +140,13 @@ module _ {M : Type 1} {𝓤 : Ura M} {𝓛 : Logic 𝓤} {K : Type 0} {Γ : List
       → Seq K 𝓛 (raw (c.post (x ν δ) v) ∷ ‵ (flent (ν ∷ []) (l.part δ)) ∷ Γ) G
   has_back t s l c x D φ gives ν δ v k =
       use1 𝓛
-      (later (some (λ (r : D.Denot). some (λ (z : Z). ‵ (flft (ν ∷ []) full_share) ⊛ (‵ (D.own r (v ∷ [])) ⊛ (‵ (l.last δ z) ⊛ raw (fact 𝓤 (φ r z))))))))
+      (later (some (λ (r : D.Denot). some (λ (z : Z). ‵ (flft (ν ∷ []) full_share) ⊛ (‵ (D.own_val r (v ∷ [])) ⊛ (‵ (l.last δ z) ⊛ raw (fact 𝓤 (φ r z))))))))
       (gives ν δ v) $ await t s $ pick t (λ r. pick t (λ z.
       split t $ lft_end t s $ move t (1 ∷ []) $ split t $
       peeks t D (Is D) (shows 𝓛 D) r (v ∷ []) (λ is. drop t $ split t $ move t (1 ∷ []) $ heard t (φ r z) (λ e.
       move t (1 ∷ 2 ∷ 0 ∷ []) $ use3 𝓛 (later (‵ (l.after z))) (l.back ν δ z) $ await t s $ k r z e is))))
 
-  module _ {E : Env 𝓤 H} {C : Calls 𝓤 H} {f : Name} {xs : List Operand} {Λ : Loops 𝓤 H} {q : Post 𝓤 H} {d : Place} where
+  module _ {E : Env 𝓤 H} {C : Calls 𝓤 H} {f : Callee} {xs : List Operand} {Λ : Loops 𝓤 H} {q : Post 𝓤 H} {d : Place} where
     -- the operands are read with what the callee asks and the lender's part in front, in the place of what is lent
     pub calls_lent : {rest : Body} → K → FmC 𝓤 H 𝓛.laws C → (l : Loan 𝓛 Z) (c : Contract 𝓤) → Triple 𝓤 (C f) c → (x : ℕ → GName → c.Ghost)
         → ((ν : ℕ) (δ : GName) → ent 𝓤 (sep 𝓤 (A.lft (ν ∷ []) full_share) (sem 𝓛 (l.own ν δ))) (c.pre (x ν δ)))
@@ -164,17 +182,17 @@ module _ {M : Type 1} {𝓤 : Ura M} (𝓛 : Logic 𝓤) where
 
   pub returned : (ν : ℕ) (D : RattleType) {Z : Type 0} (last : Z → Fml) (φ : D.Denot → Z → Type 0) (said : D.Denot → SProp 𝓤) (v : Val)
       → ((r : D.Denot) → ent 𝓤 (said r) (ex 𝓤 (λ (z : Z). sep 𝓤 (sem 𝓛 (last z)) (fact 𝓤 (φ r z)))))
-      → ent 𝓤 (H.⇛ (ex 𝓤 (λ (r : D.Denot). sep 𝓤 (sep 𝓤 (sep 𝓤 (A.lft (ν ∷ []) full_share) (emp 𝓤)) (sem 𝓛 (D.own r (v ∷ [])))) (said r))))
+      → ent 𝓤 (H.⇛ (ex 𝓤 (λ (r : D.Denot). sep 𝓤 (sep 𝓤 (sep 𝓤 (A.lft (ν ∷ []) full_share) (emp 𝓤)) (sem 𝓛 (D.own_val r (v ∷ [])))) (said r))))
       (H.⇛ (ex 𝓤
       (λ (r : D.Denot). ex 𝓤 (λ (z : Z). sep 𝓤 (A.lft (ν ∷ []) full_share)
-      (sep 𝓤 (sem 𝓛 (D.own r (v ∷ []))) (sep 𝓤 (sem 𝓛 (last z)) (fact 𝓤 (φ r z))))))))
+      (sep 𝓤 (sem 𝓛 (D.own_val r (v ∷ []))) (sep 𝓤 (sem 𝓛 (last z)) (fact 𝓤 (φ r z))))))))
   returned ν D {Z} last φ said v h =
-      qed 𝓛 (later (some (λ (r : D.Denot). ((‵ (flft (ν ∷ []) full_share) ⊛ ‵ ftrue) ⊛ ‵ (D.own r (v ∷ []))) ⊛ raw (said r))) ∷ []) ∵ updating ! $
+      qed 𝓛 (later (some (λ (r : D.Denot). ((‵ (flft (ν ∷ []) full_share) ⊛ ‵ ftrue) ⊛ ‵ (D.own_val r (v ∷ []))) ⊛ raw (said r))) ∷ []) ∵ updating ! $
       await ! tt $ pick ! (λ r. split ! $
       move ! (1 ∷ []) $ use1 𝓛 (some (λ (z : Z). ‵ (last z) ⊛ raw (fact 𝓤 (φ r z)))) (h r) $ pick ! (λ z. at_once ! $
       show ! (λ (r' : D.Denot). ex 𝓤 (λ (z' : Z). sep 𝓤 (A.lft (ν ∷ []) full_share)
-      (sep 𝓤 (sem 𝓛 (D.own r' (v ∷ []))) (sep 𝓤 (sem 𝓛 (last z')) (fact 𝓤 (φ r' z')))))) r $
-      show ! (λ (z' : Z). sep 𝓤 (A.lft (ν ∷ []) full_share) (sep 𝓤 (sem 𝓛 (D.own r (v ∷ []))) (sep 𝓤 (sem 𝓛 (last z')) (fact 𝓤 (φ r z'))))) z $
+      (sep 𝓤 (sem 𝓛 (D.own_val r' (v ∷ []))) (sep 𝓤 (sem 𝓛 (last z')) (fact 𝓤 (φ r' z')))))) r $
+      show ! (λ (z' : Z). sep 𝓤 (A.lft (ν ∷ []) full_share) (sep 𝓤 (sem 𝓛 (D.own_val r (v ∷ []))) (sep 𝓤 (sem 𝓛 (last z')) (fact 𝓤 (φ r z'))))) z $
       move ! (1 ∷ []) $ split ! $ split ! $ frame ! $ drop ! $ frame ! $ done !))
 
   -- what is said of last values, as `returned` asks it

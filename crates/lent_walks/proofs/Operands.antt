@@ -7,8 +7,9 @@ use mathlib.Core.List.{List, [], ◌∷◌}
 use lib.Dec.{T, ltb}
 use lib.ListN.{get_or}
 use seplogic.Ra.Ura.{Ura}
-use seplogic.Ra.TreeShare.{full_share}
-use mir.Syntax.{Opd as Operand, copy, int, int_neg, int_big, float, opd_true, opd_false, opd_unit, ptr_const, place, w8, w16, w32, w64, w128}
+use base.Fraction.{full_share}
+use mir.Syntax.{Opd as Operand, copy, int, int_neg, int_big, float, opd_true, opd_false, opd_unit, ptr_const, size_of, align_of, num_of, fn_addr, vtable, place}
+use mir.Syntax.{w8, w16, w32, w64, w128}
 use mir.Val.{bits, Val, vbool, vint}
 use base.Fml.{ftrue, fat}
 use prog.Wp.{Env, spot_of}
@@ -27,6 +28,11 @@ bool_of bs (int_big w n) = false
 bool_of bs (float f n) = false
 bool_of bs opd_unit = false
 bool_of bs (ptr_const n) = false
+bool_of bs (size_of ty) = false
+bool_of bs (align_of ty) = false
+bool_of bs (num_of ty n) = false
+bool_of bs (fn_addr f ty) = false
+bool_of bs (vtable ty f) = false
 
 abbrev pub number_of : List ℕ → Operand → ℕ
 number_of ns (copy (place k ss)) = get_or ns k 0
@@ -38,6 +44,11 @@ number_of ns (int_big w n) = 0
 number_of ns (float f n) = 0
 number_of ns opd_unit = 0
 number_of ns (ptr_const n) = 0
+number_of ns (size_of ty) = 0
+number_of ns (align_of ty) = 0
+number_of ns (num_of ty n) = 0
+number_of ns (fn_addr f ty) = 0
+number_of ns (vtable ty f) = 0
 
 -- `tt` shows that it is a whole local or a constant of that type
 abbrev pub Bools : Operand → Type 0
@@ -51,6 +62,11 @@ Bools (int_big w n) = ⊥
 Bools (float f n) = ⊥
 Bools opd_unit = ⊥
 Bools (ptr_const n) = ⊥
+Bools (size_of ty) = ⊥
+Bools (align_of ty) = ⊥
+Bools (num_of ty n) = ⊥
+Bools (fn_addr f ty) = ⊥
+Bools (vtable ty f) = ⊥
 
 abbrev pub Numbers : Operand → Type 0
 Numbers (copy (place k [])) = Unit {0}
@@ -67,6 +83,11 @@ Numbers (int_big w n) = ⊥
 Numbers (float f n) = ⊥
 Numbers opd_unit = ⊥
 Numbers (ptr_const n) = ⊥
+Numbers (size_of ty) = ⊥
+Numbers (align_of ty) = ⊥
+Numbers (num_of ty n) = ⊥
+Numbers (fn_addr f ty) = ⊥
+Numbers (vtable ty f) = ⊥
 
 module _ {M : Type 1} {𝓤 : Ura M} (𝓛 : Logic 𝓤) (Γ : List (Item 𝓤)) (E : Env 𝓤 𝓛.H) (at : ℕ → ℕ) (v : Val) where
   -- and `refl` that where it is local k, entry (at k) of the context is that local, with the value v
@@ -85,6 +106,11 @@ module _ {M : Type 1} {𝓤 : Ura M} (𝓛 : Logic 𝓤) (Γ : List (Item 𝓤))
   Stands (float f n) = Aside
   Stands opd_unit = Aside
   Stands (ptr_const n) = Aside
+  Stands (size_of ty) = Aside
+  Stands (align_of ty) = Aside
+  Stands (num_of ty n) = Aside
+  Stands (fn_addr f ty) = Aside
+  Stands (vtable ty f) = Aside
 
 module _ {M : Type 1} {𝓤 : Ura M} {𝓛 : Logic 𝓤} {K : Type 0} {Γ : List (Item 𝓤)} {E : Env 𝓤 𝓛.H} where
   a_bool : K → (at : ℕ → ℕ) (bs : List Bool) (x : Operand) → Bools x → Stands 𝓛 Γ E at (vbool (bool_of bs x)) x → Opd K 𝓛 Γ E x (vbool (bool_of bs x))
@@ -98,6 +124,11 @@ module _ {M : Type 1} {𝓤 : Ura M} {𝓛 : Logic 𝓤} {K : Type 0} {Γ : List
   a_bool t at bs (float f n) r e = absurd r
   a_bool t at bs opd_unit r e = absurd r
   a_bool t at bs (ptr_const n) r e = absurd r
+  a_bool t at bs (size_of ty) r e = absurd r
+  a_bool t at bs (align_of ty) r e = absurd r
+  a_bool t at bs (num_of ty n) r e = absurd r
+  a_bool t at bs (fn_addr f ty) r e = absurd r
+  a_bool t at bs (vtable ty f) r e = absurd r
 
   a_number : K → (at : ℕ → ℕ) (ns : List ℕ) (x : Operand) → Numbers x → Stands 𝓛 Γ E at (vint w64 (number_of ns x)) x
       → Opd K 𝓛 Γ E x (vint w64 (number_of ns x))
@@ -115,6 +146,11 @@ module _ {M : Type 1} {𝓤 : Ura M} {𝓛 : Logic 𝓤} {K : Type 0} {Γ : List
   a_number t at ns (float f n) r e = absurd r
   a_number t at ns opd_unit r e = absurd r
   a_number t at ns (ptr_const n) r e = absurd r
+  a_number t at ns (size_of ty) r e = absurd r
+  a_number t at ns (align_of ty) r e = absurd r
+  a_number t at ns (num_of ty n) r e = absurd r
+  a_number t at ns (fn_addr f ty) r e = absurd r
+  a_number t at ns (vtable ty f) r e = absurd r
 
   pub reads_bool : K → (at : ℕ → ℕ) (bs : List Bool) {x : Operand} → Bools x → Stands 𝓛 Γ E at (vbool (bool_of bs x)) x → Opd K 𝓛 Γ E x (vbool (bool_of bs x))
   reads_bool t at bs {x} r e = a_bool t at bs x r e

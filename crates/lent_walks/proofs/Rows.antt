@@ -6,11 +6,11 @@ use native.Mathlib.Omega.{arith}
 use mathlib.Core.List.{List, [], ◌∷◌, ◌++◌}
 use lib.ListN.{length, take, drop}
 use seplogic.Ra.Ura.{Ura}
-use seplogic.Ra.TreeShare.{full_share}
+use base.Fraction.{full_share}
 use mir.Syntax.{Lifetime, Ty, ty_array}
 use mir.Val.{Val}
-use base.Logic.{ent, sep, ex}
-use base.Fml.{Lft, GName, Fml, ftrue, fsep, fat, fdead, flent}
+use base.Logic.{ent, sep, ex, snd∗}
+use base.Fml.{Lft, GName, Fml, ftrue, fsep, fat, fdead, flent, feq, fhide}
 use types.Logic.{Logic, sem}
 use types.Kit.{‵, ◌$◌, ◌∵◌, !, qed, by, ◌⊛◌, move, keep, drop as discard, split, use1, use2, use3, later, rewrite, fsplit, fjoin, feq_i, feq_l, fpick}
 use types.Kit.{fpack, await, updating, now as at_once, show, done}
@@ -23,17 +23,27 @@ use denote.Memory.{mem, shares, lone, cell_at, part_at, part_of}
 use denote.Array.{Array, array_val, Array-Makes}
 use denote.ArrayMemory.{Single, Array-apart, Array-whole}
 use denote.Steps.{owned, nothing}
-use denote.Slice.{Room, finally}
-use denote.Lend.{Held, Lent, LentShrs, lends_slice, lends_shr_slice, slice_back}
+use denote.Slice.{Room, finally, slice_val, shr_slice_at, elements_shared}
+use denote.Shadow.{pure_i}
+use denote.Lends.{Lent-map}
+use denote.Copied.{Copied, each_lends}
+use denote.Lend.{Held, Lent, LentShrs, lends_slice, slice_back}
 use denote.Index.{row, whole_out, whole_in}
 
 module _ {M : Type 1} {𝓤 : Ura M} (𝓛 : Logic 𝓤) (R : RattleType) (ℓ : Lifetime) (ν : Lft) (ys : List R.Denot) (b o : ℕ) where
-  -- by `&`: given room, a name δ and the lender's part
+  -- by `&`, of a type that can be copied: given room, the lender's part
   open 𝓛 use {H, A}
 
-  pub shares_row : Room R (length ys) → ent 𝓤 (sem 𝓛 (row R full_share ys b o)) (H.⇛ (ex 𝓤 (LentShrs 𝓛 R ℓ ν full_share ys b o)))
-  shares_row room =
-      qed 𝓛 (‵ (row R full_share ys b o) ∷ []) ∵ feq_i ! ℕ (length ys) (length ys) refl $ fjoin ! $ by ! (lends_shr_slice 𝓛 R ℓ ν full_share ys b o room)
+  pub shares_row : Copied 𝓛 R → Room R (length ys) → ent 𝓤 (sem 𝓛 (row R full_share ys b o)) (H.⇛ (LentShrs 𝓛 R ℓ ν full_share ys b o))
+  shares_row copied room =
+      qed 𝓛 (‵ (row R full_share ys b o) ∷ []) ∵ updating ! $ feq_i ! ℕ (length ys) (length ys) refl $ fjoin ! $
+      use1 𝓛 (later (‵ (fhide (elements_shared R ys b o ν)) ⊛ ‵ (flent ν ((arr_parts (shares R) (length ys)).part full_share ys b o))))
+      (Lent-map 𝓛 ((arr_parts (shares R) (length ys)).part full_share ys b o) (row R full_share ys b o) (elements_shared R ys b o)
+      (snd∗ 𝓤 (sem 𝓛 (feq ℕ (length ys) (length ys))) (sem 𝓛 (row R full_share ys b o)))
+      (qed 𝓛 (‵ (row R full_share ys b o) ∷ []) ∵ feq_i ! ℕ (length ys) (length ys) refl $ fjoin ! $ done !)
+      (each_lends 𝓛 R copied full_share ys b o) ν) $ await ! tt $ split ! $
+      pure_i ! (shr_slice_at R (record { ref_ptr = (b, o); now = ys }) (slice_val (b, o) (length ys) ∷ [])) (tt, (tt, tt)) (refl, room) $ fjoin ! $ at_once ! $
+      done !
 
   pub shared_back : ent 𝓤 (sep 𝓤 (A.dead ν) (A.lent ν ((arr_parts (shares R) (length ys)).part full_share ys b o))) (H.⇛ (sem 𝓛 (row R full_share ys b o)))
   shared_back =
@@ -76,8 +86,8 @@ module _ {M : Type 1} {𝓤 : Ura M} (𝓛 : Logic 𝓤) (R : RattleType) (n : �
       qed 𝓛 (‵ (row R full_share ys b o) ∷ []) ∵ feq_i ! ℕ (length ys) n len $ fjoin ! $
       use1 𝓛 (‵ (part_at (Array R n) full_share ys b o)) (Array-whole 𝓛 R full_share n ys b o) $
       fpick ! (λ vs. fsplit ! $ move ! (1 ∷ []) $
-      fpick ! (λ us. fsplit ! $ fsplit ! $ feq_l ! (λ e. rewrite ! 2 (λ (ws : List Val). ‵ (cell_at full_share (Array R n).mir ws b o)) e refl $ keep ! (2 ∷ []) $
-      use1 𝓛 (‵ (fat full_share arr_ty b o (array_val us))) (𝓛.laws.raw_at full_share arr_ty b o (array_val us)) $
+      fpick ! (λ us. fsplit ! $ fsplit ! $ feq_l ! (λ e. rewrite ! 2 (λ (ws : List Val). ‵ (cell_at full_share (Array R n).mir ws b o)) e refl $
+      keep ! (2 ∷ []) $ use1 𝓛 (‵ (fat full_share arr_ty b o (array_val us))) (𝓛.laws.raw_at full_share arr_ty b o (array_val us)) $
       show ! (λ (v : Val). H.at full_share arr_ty b o v) (array_val us) $ done !)))
 
   -- the same with what the array owns, as the cell may then be read
