@@ -1,2 +1,4 @@
--- One event over the row of the tasks, as one event of the run.
-pub mod Turned
+-- What a walk of the run is made of.
+mod Cells
+mod Called
+mod Turned
