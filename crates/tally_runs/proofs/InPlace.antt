@@ -1,12 +1,12 @@
 -- An event carried out in place, without its choice: its ruling decides, its record is stored, and then each late record is closed, position by position.
 -- So the state is that of `applied`, and a ruling that accepts a completion is a job met.
-use Prim.Native.Nat.{ℕ, suc, ◌<◌}
+use Prim.Native.Nat.{ℕ, suc}
 use mathlib.Core.Path.{◌≡◌, refl, sym, ap, ◌∙◌}
 use mathlib.Core.Bool.{Bool, true, false}
 use mathlib.Core.List.{List}
 use native.Mathlib.Nat.{le_refl}
 use lib.Dec.{eqb}
-use lib.ListN.{length, get_or, set}
+use lib.ListN.{get_or, set}
 use Rattle.laws.specs.Stores.{filled}
 use Rattle.laws.proofs.Stores.{filled_past}
 use Rattle.event_reading.specs.declared.Event.{Event}
@@ -24,7 +24,7 @@ use mathlib.Core.Bool.{cond}
 use Rattle.apply_events.specs.declared.Answer.TheVariants.{Run, Idle}
 use Rattle.apply_events.specs.declared.Applied.{Applied}
 use Rattle.apply_events.specs.Steps.{expired_all}
-use Rattle.apply_events.specs.Apply.{told_of, moved, accepted, applied}
+use Rattle.apply_events.specs.Apply.{told_of, applied}
 use Rattle.apply_events.proofs.Places.{places}
 use Rattle.apply_engine.proofs.Rulings.{seat, seat_ruled, refused_by, accepted_by}
 use Rattle.apply_engine.proofs.Settled.{settled_to, stored_first}
