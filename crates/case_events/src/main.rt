@@ -1,6 +1,10 @@
 // Prints how the library judges and writes each of a list of event values.
+#![tactic(auto)]
+
 mod values;
 
-fn main() {
-    values::each();
+use std::io;
+
+fn main(rt: HostRuntime) -> io::Result<()> {
+    values::each(&rt)
 }
