@@ -1,19 +1,27 @@
 // Framed tables and logs on standard input (two bytes of size before each): what every event answers, and what the tasks then hold.
+#![tactic(auto)]
+
 mod runs;
 
-use libc::STDIN_FILENO;
+use case_frames::input::read_full;
+use std::io;
 
-fn each(all: &[u8]) {
+fn each(rt: &impl Print, all: &[u8]) -> io::Result<()> {
     let mut at: usize = 0;
     while at < all.len() {
         let middle = case_frames::end(all, at);
-        runs::one(case_frames::part(all, at), case_frames::part(all, middle));
+        runs::one(
+            rt,
+            case_frames::part(all, at),
+            case_frames::part(all, middle),
+        )?;
         at = case_frames::end(all, middle);
     }
+    Ok(())
 }
 
-fn main() {
-    let mut input = io::large_buffer();
-    let n = io::read_full(STDIN_FILENO, &mut input);
-    each(&input[..n]);
+fn main(rt: HostRuntime) -> io::Result<()> {
+    let mut input = [0u8; 65536];
+    let n = read_full(rt.stdin(), &mut input)?;
+    each(&rt, &input[..n])
 }
