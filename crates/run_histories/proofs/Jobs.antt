@@ -118,7 +118,8 @@ module _ (s : State) (e : Event) (g : StateSound s) (i : ℕ) (h : i < s.count) 
       go (passes m o) n = side (expiry (record_at s i) e.time) n
         where
           side : {q : Record} → Expired (record_at s i) e.time q → closes (record_at s i) q ≡ false → q ≡ record_at s i
-          side (over o d) n = absurd (true_not_false (sym (closes_idle (record_at s i) (closed (record_at s i) false) l (closed_idle (record_at s i) false)) ∙ n))
+          side (over o d) n =
+              absurd (true_not_false (sym (closes_idle (record_at s i) (closed (record_at s i) false) l (closed_idle (record_at s i) false)) ∙ n))
           side (stays d) n = refl
       go (reopens m o) n =
           let q = cleared (expired (record_at s i) e.time) in

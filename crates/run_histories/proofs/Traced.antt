@@ -12,7 +12,6 @@ use Rattle.table_rules.specs.declared.Table.{Table}
 use Rattle.table_rules.specs.declared.Answer.TheVariants.{Accepted}
 use Rattle.table_rules.specs.Judging.{judged}
 use Rattle.task_records.specs.declared.Record.{Record}
-use Rattle.task_records.specs.Closing.{closed}
 use Rattle.task_records.proofs.Steps.{closed_idle}
 use Rattle.task_steps.specs.Opening.{opened}
 use Rattle.state_rules.specs.declared.State.{State}

@@ -1,1 +1,2 @@
 // No code: runs of events and the jobs that they close stand in specs/ and proofs/.
+#![tactic(auto)]
