@@ -46,7 +46,9 @@ module _ (l : List Record) (t : ℕ) where
       ap (λ (x : List Record). get_or x n no_record) g.rows ∙ filled_past (λ i. expired (get_or l i no_record) t) l no_record n n (le_refl n) in
       record {
         rows = e ∙ rw (there, g.rows);
-        least = ap (λ (b : Best). better b (get_or new n no_record) n) g.least ∙ ap (λ (b : Best). better b (get_or new n no_record) n) (sym (ap (λ (x : List Record). best_to x n) e ∙ best_stored row n (expired (get_or row n no_record) t)));
+        least = ap (λ (b : Best). better b (get_or new n no_record) n) g.least ∙
+            ap (λ (b : Best). better b (get_or new n no_record) n)
+            (sym (ap (λ (x : List Record). best_to x n) e ∙ best_stored row n (expired (get_or row n no_record) t)));
       }
 
 -- a late record is closed, and another stays
@@ -64,8 +66,10 @@ unfolding expired
 prompt_same x t p = rw p
 
 -- a record that is not late may be stored before step 1 as well as after it
-pub stored_first : (l : List Record) (t n k : ℕ) (x : Record) → n ≤ length l → k < n → late x t ≡ false → settled_to (set l k x) t n ≡ set (settled_to l t n) k x
-stored_first l t n k x h b p = ext_get_or no_record (settled_to l₁ t n) (set (settled_to l t n) k x) sizes (λ i q. go i (rw long at q) (ℕ_discrete i k) (dec_lt i n))
+pub stored_first : (l : List Record) (t n k : ℕ) (x : Record) → n ≤ length l → k < n → late x t ≡ false
+    → settled_to (set l k x) t n ≡ set (settled_to l t n) k x
+stored_first l t n k x h b p =
+    ext_get_or no_record (settled_to l₁ t n) (set (settled_to l t n) k x) sizes (λ i q. go i (rw long at q) (ℕ_discrete i k) (dec_lt i n))
   where
     l₁ : List Record
     l₁ = set l k x

@@ -1,5 +1,6 @@
 -- The events of the rules, case by case, and quotients that fit.
-use Rattle.std.proofs.Common.{◌≡◌, ℕ, ◌+◌, ◌-◌, ◌*◌, ◌/◌, ◌%◌, ◌<◌, ◌≤◌, List, set, sym, refl, subst, mul-le-mul_right, mod-lt, div-le_self, arith, le-ltb, lt-ltb, le-leb}
+use Rattle.std.proofs.Common.{◌≡◌, ℕ, ◌+◌, ◌-◌, ◌*◌, ◌/◌, ◌%◌, ◌<◌, ◌≤◌, List, set, sym, refl, subst, mul-le-mul_right, mod-lt, div-le_self, arith}
+use Rattle.std.proofs.Common.{le-ltb, lt-ltb, le-leb}
 use borrow.Author.Tests.{lt-leb}
 use Rattle.event_reading.specs.declared.Event.{Event}
 use Rattle.bench_table.specs.Table.{spacing_of}

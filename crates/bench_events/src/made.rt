@@ -1,6 +1,7 @@
 // The event itself, by the rule; what rule 1 keeps of the tasks is changed where it stands.
 ghost use Rattle.std.specs.Prelude.{◌≡◌, ◌<◌};
-ghost use Rattle.bench_events.specs.Made.{seat_of, tick_at, release_at, completion_at, chance_event, chance_cells, turn_event, once_event, made_event, made_cells};
+ghost use Rattle.bench_events.specs.Made.{seat_of, tick_at, release_at, completion_at, chance_event, chance_cells};
+ghost use Rattle.bench_events.specs.Made.{turn_event, once_event, made_event, made_cells};
 
 use super::{CELLS, Maker};
 use bench_table::{count, spacing};

@@ -22,7 +22,8 @@ use Rattle.apply_events.specs.Log.{ended_with}
 use Rattle.apply_engine.proofs.Rulings.{seat, seat_ruled, refused_by, accepted_by}
 use Rattle.apply_events.proofs.Runs.{Running, running_none, running_more, running_stop}
 use Rattle.apply_engine.proofs.Settled.{Settling, settling_none, settling_more, late_closed, prompt_stays, settled_accepted}
-use Rattle.apply_engine.proofs.acting.act.Goals.{After-loop-i-unread, After-rule-ruling, After-seat-at, At-loop-i, At-loop-next, In-Event, Joined-is_late, Joined-ruling-eq0}
+use Rattle.apply_engine.proofs.acting.act.Goals.{After-loop-i-unread, After-rule-ruling, After-seat-at, At-loop-i, At-loop-next, In-Event}
+use Rattle.apply_engine.proofs.acting.act.Goals.{Joined-is_late, Joined-ruling-eq0}
 use Rattle.apply_engine.proofs.acting.act.Goals as goal
 use Rattle.apply_engine.proofs.acting.act.Goals.{then-is_late, else-is_late, then-ruling-eq0+else-loop-i-test, else-ruling-eq0}
 

@@ -36,7 +36,8 @@ act-requires c =
 pub returns-then-is_sound : goal.returns-then-is_sound
 returns-then-is_sound c =
     let a = c.args in
-    rw (ran_first a.state a.log.now (sounds (goal.at.returns-then-is_sound c).Then-is_sound) c.in-Event.first (reads (goal.at.returns-then-is_sound c).In-Event)) c.act.ensures
+    rw (ran_first a.state a.log.now (sounds (goal.at.returns-then-is_sound c).Then-is_sound) c.in-Event.first
+    (reads (goal.at.returns-then-is_sound c).In-Event)) c.act.ensures
 
 pub returns : goal.returns
 unfolding ran

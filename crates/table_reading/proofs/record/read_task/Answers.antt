@@ -36,7 +36,8 @@ pub returns-then-fault-ne0 : goal.returns-then-fault-ne0
 returns-then-fault-ne0 c =
     let s = c.args.bytes.now in
     let e = c.copied-copy.ensures in
-    let m = marked s c.if-bytes-ne-TASK_SIZE.false (record { first = sym (byte_of 0 e) ∙ c.if-copy-ne84.false; second = sym (byte_of 1 e) ∙ c.if-copy-ne75.false }) in
+    let m = marked s c.if-bytes-ne-TASK_SIZE.false
+    (record { first = sym (byte_of 0 e) ∙ c.if-copy-ne84.false; second = sym (byte_of 1 e) ∙ c.if-copy-ne75.false }) in
     let f = c.judge_task-fault.ensures ∙ ap task_fault (c.task_of-task.ensures ∙ ap task_of e) in
     sym (row_refused s _ (m ∙ sym f) c.if-fault-ne0.true)
 
@@ -44,6 +45,7 @@ pub returns : goal.returns
 returns c =
     let s = c.args.bytes.now in
     let e = c.copied-copy.ensures in
-    let m = marked s c.if-bytes-ne-TASK_SIZE.false (record { first = sym (byte_of 0 e) ∙ c.if-copy-ne84.false; second = sym (byte_of 1 e) ∙ c.if-copy-ne75.false }) in
+    let m = marked s c.if-bytes-ne-TASK_SIZE.false
+    (record { first = sym (byte_of 0 e) ∙ c.if-copy-ne84.false; second = sym (byte_of 1 e) ∙ c.if-copy-ne75.false }) in
     let t = c.task_of-task.ensures ∙ ap task_of e in
     ap Row.Task t ∙ sym (row_task s (m ∙ sym (c.judge_task-fault.ensures ∙ ap task_fault t) ∙ c.if-fault-ne0.false))
