@@ -1,4 +1,6 @@
 // The listing of table bytes and the events behind them: the tasks, the events one by one, where the reading stopped, and the tasks again.
+#![tactic(auto)]
+
 ghost use Rattle.std.specs.Prelude.{◌≡◌};
 ghost use Rattle.table_rules.specs.declared.Answer.TheVariants.{Accepted};
 ghost use Rattle.table_rules.specs.Judging.{judged};
