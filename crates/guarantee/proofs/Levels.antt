@@ -122,7 +122,8 @@ module _ (n : ℕ) (p : ℕ → Task) (above : ℕ → ℕ → Bool) (bound spac
       omega (
         arith,
         le,
-        total_shift (λ i. cond (up_to above k i) (allowance bound space k i * (p i).c) 0) (λ i. cond (above i k) (ceiling (bound k) (space i) * (p i).c) 0) n k pk
+        total_shift (λ i. cond (up_to above k i) (allowance bound space k i * (p i).c) 0)
+            (λ i. cond (above i k) (ceiling (bound k) (space i) * (p i).c) 0) n k pk
             (λ i h o.
             cond_mono (up_to above k i) (above i k) (allowance bound space k i * (p i).c) (ceiling (bound k) (space i) * (p i).c) (above_other above i k o)
             (λ u. rw (others i o) (omega arith))),

@@ -59,7 +59,8 @@ module _ (s : State) where
     time_before e es x h =
         total_same (tick (e ∷ es)) (tick es) (min x d) (λ y q. ap (λ (s : State). one_if (is_choice s i j)) (stood e es y (omega arith)))
 
-    pub time_unmoved : (e : Event) (es : List Event) → run_state s (e ∷ es) ≡ run_state s es → (x : ℕ) → chosen_time s (e ∷ es) i j d x ≡ chosen_time s es i j d x
+    pub time_unmoved : (e : Event) (es : List Event) → run_state s (e ∷ es) ≡ run_state s es
+        → (x : ℕ) → chosen_time s (e ∷ es) i j d x ≡ chosen_time s es i j d x
     unfolding chosen_time
     time_unmoved e es q x =
         total_same (tick (e ∷ es)) (tick es) (min x d) (λ y h. ap (λ (s : State). one_if (is_choice s i j)) (unmoved e es q y))
