@@ -1,4 +1,6 @@
 // The report over a log, for C callers: a library of its own, since another engine beside it changes what the compiler puts in line.
+#![tactic(auto)]
+
 mod chunks;
 mod folds;
 
