@@ -1,1 +1,2 @@
 // No code: what the bench rig answers stands in specs/ and proofs/.
+#![tactic(auto)]
