@@ -30,7 +30,8 @@ unfolding sums_within
 loop-c-preserved c =
     let l = c.loop-c in
     let s = c.args in
-    (omega arith, rw (add-one l.c, l.invariant.1.0, le-leb _ most_tallied c.if-joint-gt-MOST_TALLIED.false) (refl, more-joined s.a s.b l.tally l.c l.invariant.1.1))
+    let few = le-leb _ most_tallied c.if-joint-gt-MOST_TALLIED.false in
+    (omega arith, rw (add-one l.c, l.invariant.1.0, few) (refl, more-joined s.a s.b l.tally l.c l.invariant.1.1))
 
 pub returns : goal.returns
 unfolding both
