@@ -22,7 +22,6 @@ use Rattle.table_reading.specs.Table.{read_table}
 use Rattle.table_reading.proofs.Given.{read_good}
 use Rattle.bound_demand.specs.Above.{task_at}
 use Rattle.bound_one.specs.declared.Bound.{Bound}
-use Rattle.bound_one.specs.declared.Bound.TheVariants as Bound
 use Rattle.bound_one.specs.Asked.{one_answer}
 use Rattle.event_reading.specs.declared.Event.{Event}
 use Rattle.event_reading.specs.declared.Reading.{Reading}
@@ -42,7 +41,6 @@ use Rattle.state_rules.specs.declared.State.{State}
 use Rattle.state_rules.specs.Sound.{limit, StateSound}
 use Rattle.state_rules.specs.State.{record_at, fresh_state}
 use Rattle.apply_events.specs.declared.Answer.{Answer as Said}
-use Rattle.apply_events.specs.declared.Answer.TheVariants as Said
 use Rattle.apply_events.specs.Apply.{applied}
 use Rattle.apply_events.proofs.Kept.{applied_sound}
 use Rattle.listing_text.specs.TaskLines.{bound_text, task_line, last_line}

@@ -27,12 +27,10 @@ use Rattle.table_reading.proofs.Exactly.{whole_tells, length_at}
 use Rattle.table_reading.proofs.Records.{record_among}
 use Rattle.table_reading.proofs.Given.{answer_is}
 use Rattle.bound_search.specs.declared.Found.{Found}
-use Rattle.bound_search.specs.declared.Found.TheVariants as Found
 use Rattle.bound_demand.specs.Above.{task_at}
 use Rattle.bound_search.specs.Bound.{bound_of}
 use Rattle.bound_search.proofs.Meets.{bound_is}
 use Rattle.bound_one.specs.declared.Bound.{Bound}
-use Rattle.bound_one.specs.declared.Bound.TheVariants as Bound
 use Rattle.bound_one.specs.Asked.{or_thirteen, one_answer}
 use Rattle.event_reading.specs.declared.Event.{Event}
 use Rattle.event_reading.specs.Event.{last_kind, zeroes, fault_of}
@@ -50,7 +48,6 @@ use Rattle.state_rules.specs.Sound.{limit, StateSound}
 use Rattle.state_rules.specs.State.{fresh_state}
 use Rattle.state_choice.proofs.Least as Least
 use Rattle.state_choice.proofs.Least.{best_is}
-use Rattle.apply_events.specs.declared.Answer.TheVariants as Said
 use Rattle.state_rules.specs.State.{record_at}
 use Rattle.apply_events.specs.declared.Answer.{Answer as Said}
 use Rattle.apply_events.specs.declared.Applied.{Applied}

@@ -10,7 +10,6 @@ use Rattle.table_rules.specs.declared.Table.{Table}
 use Rattle.table_rules.specs.Judging.{judged}
 use Rattle.table_reading.specs.Table.{read_table}
 use Rattle.bound_search.specs.declared.Found.{Found}
-use Rattle.bound_search.specs.declared.Found.TheVariants as Found
 use Rattle.bound_search.specs.Bound.{IsBound, NoBound, bound_of}
 use Rattle.bound_search.proofs.Meets.{bound_is, bound_none}
 use Rattle.bound_one.specs.Asked.{or_thirteen, one_answer}
