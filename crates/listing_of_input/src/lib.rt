@@ -1,4 +1,6 @@
 // The listing of every input: the input taken apart, and the whole text in lent bytes.
+#![tactic(auto)]
+
 ghost use Rattle.std.specs.Prelude.{◌≡◌, length};
 ghost use Rattle.text_writing.specs.Sheet.{sheet, puts};
 ghost use Rattle.listing_text.specs.Listing.{events_from, listing_of};
