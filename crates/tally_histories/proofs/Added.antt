@@ -1,5 +1,5 @@
--- What one event adds: in a sound state an accepted completion of task i, and no other event, closes a met job of task i, with the response that is tallied, and
--- that is at most D. By what a record becomes.
+-- What one event adds: in a sound state an accepted completion of task i, and no other event, closes a met job of task i, with the response that is tallied,
+-- and that is at most D. By what a record becomes.
 use Prim.Native.Nat.{ℕ, ◌≤◌, ◌<◌}
 use mathlib.Core.Path.{◌≡◌, refl, sym, subst, ◌∙◌}
 use mathlib.Core.Bool.{Bool, true, false, cond}

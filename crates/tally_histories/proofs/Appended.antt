@@ -1,5 +1,5 @@
--- Two logs one behind the other: if the first is read to its end, their events and their endings follow each other, and if it stops at a whole record, the second
--- is not looked at. A record reads by its own 20 bytes, and those behind it do not matter; by induction on the records.
+-- Two logs one behind the other: if the first is read to its end, their events and their endings follow each other, and if it stops at a whole record, the
+-- second is not looked at. A record reads by its own 20 bytes, and those behind it do not matter; by induction on the records.
 use Prim.Native.Nat.{ℕ, ◌+◌, ◌*◌, ◌≤◌, ◌<◌}
 use mathlib.Core.Path.{◌≡◌, refl, sym, ap, ◌∙◌}
 use mathlib.Core.List.{List, [], ◌∷◌, ◌++◌}

@@ -1,4 +1,5 @@
--- A report that is accepted leaves what the next one asks for: a sound state, sound tallies with their tasks' D, and all their cells. By the tallies of its run.
+-- A report that is accepted leaves what the next one asks for: a sound state, sound tallies with their tasks' D, and all their cells. By the tallies of its
+-- run.
 use Prim.Native.Nat.{ℕ, ◌≤◌, ◌<◌}
 use mathlib.Core.Path.{◌≡◌, sym, ap, subst, ◌∙◌}
 use mathlib.Core.Bool.{true}

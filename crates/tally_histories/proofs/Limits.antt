@@ -1,5 +1,5 @@
--- All that a run adds fits exactly where the tallies of its met jobs are within the limits: no addition takes anything back, so what is within in the end was so
--- all along. By induction on the events, newest first.
+-- All that a run adds fits exactly where the tallies of its met jobs are within the limits: no addition takes anything back, so what is within in the end was
+-- so all along. By induction on the events, newest first.
 use Prim.Native.Nat.{ℕ, ◌≤◌, ◌<◌}
 use mathlib.Core.Path.{◌≡◌, refl, sym, ap, subst}
 use mathlib.Core.Bool.{Bool, true, false}

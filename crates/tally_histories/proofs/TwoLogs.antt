@@ -1,5 +1,5 @@
--- The tallies of two logs one after the other join to the tally of both as one log: the jobs of a run are those of its later part and of its earlier part, so the
--- responses are two lists, one behind the other.
+-- The tallies of two logs one after the other join to the tally of both as one log: the jobs of a run are those of its later part and of its earlier part, so
+-- the responses are two lists, one behind the other.
 use Prim.Native.Nat.{ℕ, ◌-◌, ◌*◌, ◌<◌}
 use mathlib.Core.Path.{◌≡◌, refl, sym, ap, subst, ◌∙◌}
 use mathlib.Core.Bool.{Bool, true, false, cond}
@@ -86,7 +86,8 @@ responses_two s fs es i = ap responses_of (jobs_append s fs es i) ∙ responses_
 
 -- so the tally of a task's met jobs is that of the later ones and that of the earlier ones
 pub two_runs : (s : State) (d : ℕ) (fs es : List Event) (i : ℕ)
-    → tally_of d (responses_of (jobs_of s (fs ++ es) i)) ≡ both (tally_of d (responses_of (jobs_of (run_state s es) fs i))) (tally_of d (responses_of (jobs_of s es i)))
+    → tally_of d (responses_of (jobs_of s (fs ++ es) i))
+    ≡ both (tally_of d (responses_of (jobs_of (run_state s es) fs i))) (tally_of d (responses_of (jobs_of s es i)))
 two_runs s d fs es i =
     ap (tally_of d) (responses_two s fs es i) ∙ two_lists d (responses_of (jobs_of (run_state s es) fs i)) (responses_of (jobs_of s es i))
 
