@@ -38,7 +38,8 @@ module _ (l : List Record) (t : ℕ) where
   unfolding filled
   settled_none = refl
 
-  pub settled_more : (n : ℕ) (row new : List Record) → row ≡ settled_to l t n → new ≡ set row n (expired (get_or row n no_record) t) → new ≡ settled_to l t (suc n)
+  pub settled_more : (n : ℕ) (row new : List Record)
+      → row ≡ settled_to l t n → new ≡ set row n (expired (get_or row n no_record) t) → new ≡ settled_to l t (suc n)
   unfolding filled
   settled_more n row new g e =
       let there : get_or row n no_record ≡ get_or l n no_record =

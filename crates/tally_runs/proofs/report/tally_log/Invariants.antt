@@ -7,7 +7,8 @@ use Rattle.tally_runs.proofs.report.tally_log.Given as goal
 
 abbrev pub invariant-loop-i : goal.invariant-loop-i
 invariant-loop-i l =
-    (l.i ≤ l.count) × ((l.next.count ≡ l.initial.next.count) × ((l.next.clock ≡ l.initial.next.clock) × (l.next.records ≡ settled_to l.initial.next.records l.event.time l.i)))
+    let o = l.initial.next in
+    (l.i ≤ l.count) × ((l.next.count ≡ o.count) × ((l.next.clock ≡ o.clock) × (l.next.records ≡ settled_to o.records l.event.time l.i)))
 
 abbrev pub decreases-loop-i : goal.decreases-loop-i
 decreases-loop-i l = l.count - l.i
