@@ -1,5 +1,5 @@
--- A log may be reported in chunks of whole records: going on from the state and the tallies that a chunk left gives what the whole log gives, and a chunk
--- that is refused or has stopped is the whole's report. By the events of two logs one behind the other.
+-- A log may be reported in chunks of whole records: going on from the state and the tallies that a chunk left gives what the whole log gives, and a chunk that
+-- is refused or has stopped is the whole's report. By the events of two logs one behind the other.
 use Prim.Native.Nat.{ℕ, ◌+◌, ◌*◌, ◌≤◌}
 use mathlib.Core.Path.{◌≡◌, refl, sym, ap, ◌∙◌}
 use mathlib.Core.Bool.{Bool, true, false, cond}
@@ -75,8 +75,12 @@ module _ (s : State) (ts : Tallies) (a b : List ℕ) (w : AllWhole ts s.count) w
   -- the first chunk is read to its end
   module _ (g : Beside s ts) (k : 20 * readable a ≡ length a) where
     given_on : given s ts (a ++ b)
-        ≡
-        record { answer = (given s' ts' b).answer; state = (given s' ts' b).state; tallies = (given s' ts' b).tallies; ending = shifted (length a) (ending_of b) }
+        ≡ record {
+          answer = (given s' ts' b).answer;
+          state = (given s' ts' b).state;
+          tallies = (given s' ts' b).tallies;
+          ending = shifted (length a) (ending_of b);
+        }
     given_on =
         rw (events_append b a k, ending_append b a k, state_append s (events_of a) (events_of b), tallies_append s ts (events_of a) (events_of b))
 

@@ -65,8 +65,8 @@ module _ (s : State) (g : StateSound s) where
   responses_small (e ∷ es) i h =
       rw (responses_more e es i h)
       (by_test (UpTo (deadline_at s i)) (adds (run_state s es) e i) _ _
-      (λ a. more (rw (← ap (λ (t : Task). t.d) (run_task es i h)) (in_time (run_state s es) e (run_sound es) i (rw (run_count es) h) a))
-      (responses_small es i h))
+      (λ a.
+      more (rw (← ap (λ (t : Task). t.d) (run_task es i h)) (in_time (run_state s es) e (run_sound es) i (rw (run_count es) h) a)) (responses_small es i h))
       (λ a. responses_small es i h))
 
   -- ---- the tallies
