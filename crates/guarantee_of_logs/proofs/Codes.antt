@@ -66,7 +66,9 @@ module _ (s : State) (es : List Event) (g : StateSound s) (n : ℕ) (h : n < len
   taken : accepted_at s es n ≡ true → CodeTells s es (suc n) (code_for (of_answer answer))
   taken a =
       let c = answers_choice here (event_at es n) sound a in
-      let q = ap (λ (x : Answer). code_for (of_answer x)) c ∙ choice_code_lem (applied here (event_at es n)).state ∙ ap choice_code (sym (after_more s es n h)) in
+      let q =
+      ap (λ (x : Answer). code_for (of_answer x)) c
+      ∙ choice_code_lem (applied here (event_at es n)).state ∙ ap choice_code (sym (after_more s es n h)) in
       subst (CodeTells s es (suc n)) (sym q) (last_accepted n a)
 
   told : CodeTells s es (suc n) (code_for (of_answer answer))

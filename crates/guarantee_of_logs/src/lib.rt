@@ -1,1 +1,2 @@
 // No code: what the log bytes of the C function keep stands in specs/ and is proved in proofs/.
+#![tactic(auto)]
