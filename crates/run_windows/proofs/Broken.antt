@@ -22,7 +22,8 @@ use Rattle.run_windows.specs.Outcomes.{last_misses}
 use Rattle.run_windows.specs.Broken.{first_over, first_jobs, Unbroken, BrokenAt}
 use Rattle.run_windows.specs.History.{History, start, release, close}
 use Rattle.run_windows.proofs.Counts.{counts}
-use Rattle.run_windows.proofs.Marks.{mark_of, count_word, push_marks, marks_are}
+use Rattle.run_windows.proofs.Words.{mark_of}
+use Rattle.run_windows.proofs.Marks.{count_word, push_marks, marks_are}
 
 module _ {task : Task} (rules : Misses task) where
   broken_next : {os : List Bool} {r : Record} (o : Bool) → r.live ≡ true → History task os r → r.broken ≡ first_over task.m task.k os

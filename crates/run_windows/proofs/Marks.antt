@@ -20,16 +20,7 @@ use Rattle.task_steps.specs.Opening.{opened}
 use Rattle.run_windows.specs.Outcomes.{misses, last_misses}
 use Rattle.run_windows.specs.History.{History, start, release, close}
 use Rattle.run_windows.proofs.Counts.{counts}
-
--- a miss is marked 1
-abbrev pub mark_of : Bool → ℕ
-mark_of true = 0
-mark_of false = 1
-
--- outcomes as marks in a word, the newest in the lowest place
-abbrev pub word_of : List Bool → ℕ
-word_of [] = 0
-word_of (o ∷ os) = word_of os * 2 + mark_of o
+use Rattle.run_windows.proofs.Words.{mark_of, word_of}
 
 mark_below : (o : Bool) → mark_of o < 2
 mark_below true = omega arith
