@@ -3,7 +3,7 @@ import re
 
 from there import CRATES, ROOT, crates, declared, edits, functions, missing, names, read
 
-WORDS = {"&", "-", "let", "loop", "requires", "specs", "proofs", "must-fail", "pub", "es", "i"}
+WORDS = {"&", "-", "let", "loop", "requires", "specs", "proofs", "must-fail", "pub", "es", "i", "result"}
 # words of the language and of its prover that the other two documents name
 OTHERS = {"i32", "u64", "count_ones", "take", "out", "Read", "alloc1", "rt"}
 
