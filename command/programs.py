@@ -15,7 +15,7 @@ CRATE = ROOT / "crates" / PROGRAM
 BINARY = CRATE / "out" / PROGRAM
 STAMP = ROOT / "target/command" / PROGRAM
 INSTALL = "install the Rattle toolchain, and put its bin folder into PATH"
-WORD = "brumerola: proving and building the listing program; this takes many minutes the first time, and is done again only if the sources change\n"
+WORD = "brumerola: proving and building the listing program; this takes up to 10 minutes the first time, and is done again only if the sources change\n"
 
 
 def sources():
