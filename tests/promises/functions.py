@@ -6,6 +6,7 @@ from there import CRATES, ROOT, missing, read, sources
 # Public functions that break rules, each with the rules (`requires`, `contract`, `equation` or `lent`); docs/DECISIONS.md names each and says why.
 EXCEPTED = {
     "bound_search::search::bound_in": ["requires"],
+    "apply_engine::acting::act": ["requires"],
     "tally_rules::adding::put_in": ["requires"],
     "case_frames::input::read_full": ["equation", "lent"],
 }
@@ -36,18 +37,23 @@ def breaks(function, rule, what):
 
 
 def fields(struct):
-    body = next((m.group(1) for p in sources("src", ".rt") if (m := re.search(rf"^pub struct {struct} \{{(.*?)^\}}", read(p), re.M | re.S))), "")
+    name = re.sub(r"<.*>", "", struct)
+    body = next((m.group(1) for p in sources("src", ".rt") if (m := re.search(rf"^pub struct {name}(?:<[^>]*>)? \{{(.*?)^\}}", read(p), re.M | re.S))), "")
     return set(re.findall(r"^    pub (\w+):", body, re.M))
 
 
+# a view of an answer in the rules' terms: of a `Result`, the number of its refusal, or the case that it is; each view tells all of it (`.._tells` in proofs/)
+VIEW = r"(?:\b(?:as_\w+(?: \w+)*|fault_in) \(?(?:Ok )?)?"
+
+
 def is_said(result, clauses):
-    """Whether the answer stands on the left of an equation, whole or field by field, of an I/O result where it is no error; nothing is asked of a function
-    that answers nothing."""
-    if not result or re.search(r"\bresult(\.now)? ≡ ", clauses):
+    """Whether the answer, or a view of it, stands on the left of an equation, whole or field by field, of an I/O result where it is no error; nothing is
+    asked of a function that answers nothing."""
+    if not result or re.search(VIEW + r"\bresult(\.now)?\)? ≡ ", clauses):
         return True
     if result.startswith("io::Result<"):
         return bool(re.search(r"\bIfOk result \(λ (\w+)\. \1 ≡ ", clauses))
-    return set(re.findall(r"\bresult\.(\w+) ≡ ", clauses)) >= fields(result) > set()
+    return set(re.findall(VIEW + r"\bresult\.(\w+)(?:\.now)? ≡ ", clauses)) >= fields(result) > set()
 
 
 def has(kind, clauses):
@@ -63,15 +69,15 @@ def judge(function, parameters, result, clauses):
         breaks(function, "contract", "has no contract")
     elif not is_said(result, clauses):
         breaks(function, "equation", "has a contract that is no equation for its answer")
-    for lent in re.findall(r"(\w+): &mut", parameters):
-        if not re.search(rf"\b{lent}\.new\b[^×}}]* ≡ ", clauses):
+    for lent in re.findall(r"(\w+): &mut", parameters) + (["self"] if "&mut self" in parameters else []):
+        if not re.search(rf"\b{lent}\.new\b[^×}}]* ≡ |\bPuts [^×}}]*\b{lent}\.new\b", clauses):
             breaks(function, "lent", f"says nothing of what {lent} holds afterwards")
 
 
 def judge_file(crate, path):
     """How many public functions the file has, each judged."""
     text = read(path)
-    found = list(re.finditer(r'^pub (?:extern "C" )?fn (\w+)\((.*?)\)(?: -> (.*?))?$(.*?)(?:^\{|\{$)', text, re.M | re.S))
+    found = list(re.finditer(r'^ *pub (?:extern "C" )?fn (\w+)(?:<[^>]*>)?\((.*?)\)(?: -> (.*?))?$(.*?)(?:^ *\{|\{$)', text, re.M | re.S))
     if len(found) != len(re.findall(r"^\s*pub\b.*\bfn ", text, re.M)):
         missing.append(f"{path.relative_to(ROOT)}: a public function is not in a form that is read here")
     for match in found:

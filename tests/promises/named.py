@@ -5,7 +5,7 @@ from there import CRATES, ROOT, crates, declared, edits, functions, missing, nam
 
 WORDS = {"&", "-", "let", "loop", "requires", "specs", "proofs", "must-fail", "pub", "es", "i", "result"}
 # words of the language and of its prover that the other two documents name
-OTHERS = {"i32", "u64", "count_ones", "take", "out", "Read", "alloc1", "rt"}
+OTHERS = {"i32", "u64", "count_ones", "take", "out", "Read", "Result", "Option", "From", "alloc1", "rt"}
 
 
 def stands(path):

@@ -8,7 +8,7 @@ use Rattle.task_steps.specs.Opening.{late}
 use Rattle.state_rules.specs.declared.State.{State}
 use Rattle.state_rules.specs.State.{record_at}
 use Rattle.state_rules.specs.Sound.{StateSound}
-use Rattle.apply_ruling.specs.declared.Ruling.{Ruling}
+use Rattle.apply_ruling.specs.Answer.{Ruling}
 use Rattle.apply_ruling.specs.Ruling.{seat_of, ruled}
 use Rattle.apply_ruling.proofs.Seats.{seat_is, ruled_takes, same_number}
 use Rattle.apply_events.specs.Steps.{expired_all}

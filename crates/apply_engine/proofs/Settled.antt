@@ -14,11 +14,11 @@ use Rattle.laws.proofs.Stores.{length_filled, filled_below, filled_past}
 use Rattle.task_records.specs.declared.Record.{Record}
 use Rattle.task_records.specs.Closing.{closed}
 use Rattle.task_steps.specs.Opening.{late, expired, no_record}
-use Rattle.state_choice.specs.declared.Best.{Best}
+use Rattle.state_choice.specs.Best.{Best}
 use Rattle.state_rules.specs.declared.State.{State}
 use Rattle.state_rules.specs.Sound.{StateSound}
 use Rattle.state_choice.specs.Choice.{none, better, best_to}
-use Rattle.state_choice.proofs.Least.{best_stored}
+use Rattle.state_choice.proofs.Least.{best_stored, best_within}
 use Rattle.apply_events.specs.Steps.{expired_all}
 use Rattle.apply_events.specs.Apply.{told_of, moved, accepted}
 use Rattle.apply_events.proofs.Places.{places}
@@ -116,3 +116,7 @@ settled_accepted s t k x row best p b f g =
     let e : row ≡ set (expired_all s t) k x = g.rows ∙ stored_first s.records t s.count k x (places s p) b f in
     let m : min s.count 16 ≡ s.count = omega (arith, p.counted.most) in
     rw (← e, m, g.least)
+
+-- the best job of a state's tasks stands at one of the 16 places
+pub best_placed : (l : List Record) (n : ℕ) → 1 ≤ n → (best_to l (min n 16)).at < 16
+best_placed l n h = omega (arith, best_within l (min n 16) (omega arith))

@@ -1,66 +1,48 @@
-// Acting on a sound state, in place: one state is held, so that an event copies nothing but its own task's record.
-ghost use Rattle.std.specs.Prelude.{◌≡◌, ◌≤◌, length, drop};
-ghost use Rattle.event_logs.specs.Log.{events_of};
-ghost use Rattle.event_logs.specs.Ending.{ending_from};
+// Acting on a sound state, in place: an event copies nothing but its own task's record.
+ghost use Rattle.std.specs.Prelude.{◌≡◌, ◌≤◌};
+ghost use Rattle.table_rules.specs.Limits.{place_count};
+ghost use Rattle.state_choice.specs.Best.{as_best};
+ghost use Rattle.state_rules.specs.Choice.{chosen};
 ghost use Rattle.state_rules.specs.Sound.{StateSound};
-ghost use Rattle.apply_events.specs.Apply.{applied};
-ghost use Rattle.apply_events.specs.Log.{ran_over, ended_with};
+ghost use Rattle.apply_events.specs.Answer.{as_told};
+ghost use Rattle.apply_events.specs.Apply.{moved, applied};
+ghost use Rattle.apply_events.specs.Steps.{expired_all};
 
 use super::telling::told;
-use apply_events::{Answer, Ran};
+use apply_events::Answer;
 use apply_ruling::judging::{rule, seat};
-use event_logs::ended;
-use event_reading::{EVENT_SIZE, Event, Reading, read};
-use state_choice::{Best, better_of};
+use event_reading::Event;
+use state_choice::{Best, better_of, place};
 use state_rules::State;
 use task_records::closing::close;
 use task_steps::opening::is_late;
 
-// The event, and then those that follow it in a log, from a place on. A refused event leaves the state as it stands.
-pub fn act(state: State, first: Event, log: &[u8], start: usize) -> Ran
-    requires { (StateSound state) × (start ≤ length log.now) }
-    ensures { result ≡ ended_with (ran_over (applied state first) (events_of (drop start log.now))) (ending_from log.now start) }
+// Step 1 on every task, and the best of the jobs that it leaves open.
+fn expire_all(state: &mut State, time: u64) -> Option<Best>
+    requires { state.old.count ≤ place_count }
+    ensures state { state.new ≡ moved state.old state.old.clock (expired_all state.old time) }
+    ensures best { as_best result ≡ chosen state.new }
 {
-    let count = state.count;
-    let mut next = state;
-    let mut said = Answer::Idle;
-    let mut event = first;
-    let mut from = start;
-    loop {
-        let at = seat(event.task, count);
-        let ruling = rule(next.clock, count, next.records[at], event);
-        if ruling.refusal == 0 {
-            next.clock = event.time;
-            let after = ruling.after;
-            next.records[at] = after;
-            let mut best = Best {
-                found: false,
-                key: 0,
-                at: 0,
-            };
-            let mut i: usize = 0;
-            while i < count {
-                if is_late(next.records[i], event.time) {
-                    let one = close(next.records[i], false);
-                    next.records[i] = one;
-                }
-                best = better_of(best, next.records[i], i);
-                i += 1;
-            }
-            let chosen = best.at;
-            said = told(best, next.records[chosen].class);
-        } else {
-            said = Answer::Refused(ruling.refusal);
+    let mut best = None;
+    for i in 0..state.count {
+        if is_late(state.records[i], time) {
+            state.records[i] = close(state.records[i], false);
         }
-        let got = read(&log[from..]);
-        let Reading::Event(other) = got else {
-            return Ran {
-                answer: said,
-                state: next,
-                ending: ended(got, from),
-            };
-        };
-        event = other;
-        from += EVENT_SIZE;
+        best = better_of(best, state.records[i], i);
     }
+    best
+}
+
+// One event. Its own record is stored first: it is not late, so that step 1 leaves it. A refused event leaves the state as it stands.
+pub fn act(state: &mut State, event: Event) -> Answer
+    requires { StateSound state.old }
+    ensures answer { as_told result ≡ (applied state.old event).answer }
+    ensures state { state.new ≡ (applied state.old event).state }
+{
+    let at = seat(event.task, state.count);
+    let after = rule(state.clock, state.count, state.records[at], event)?;
+    state.clock = event.time;
+    state.records[at] = after;
+    let best = expire_all(state, event.time);
+    Ok(told(best, state.records[place(best)].class))
 }

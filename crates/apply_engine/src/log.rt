@@ -1,50 +1,54 @@
 // Applying a log: soundness is tested once, since every event keeps it.
-ghost use Rattle.std.specs.Prelude.{◌≡◌};
+ghost use Rattle.std.specs.Prelude.{◌≡◌, Ok};
 ghost use Rattle.state_rules.specs.Sound.{StateSound};
-ghost use Rattle.apply_events.specs.Log.{standing, ended_with, ran};
+ghost use Rattle.apply_events.specs.Answer.{as_told, as_ran};
+ghost use Rattle.apply_events.specs.Apply.{answer_of};
+ghost use Rattle.apply_events.specs.Log.{ran};
 
 use super::acting::act;
 use super::telling::told;
-use apply_events::{Answer, Ran};
-use event_logs::{Ending, ended};
-use event_reading::{EVENT_SIZE, Reading, read};
+use apply_events::{Chosen, Ran};
+use event_logs::{Stop, ended};
+use event_reading::{EVENT_SIZE, read};
+use refusals::Refusal;
+use state_choice::place;
 use state_rules::State;
 use state_rules::choice::choose;
 use state_rules::sound::is_sound;
 
 // The choice as it stands, where no event has come.
-fn stand(state: State, ending: Ending) -> Ran
+fn stand(state: State) -> Option<Chosen>
     requires { StateSound state }
-    ensures { result ≡ ended_with (standing state) ending }
+    ensures { as_told (Ok result) ≡ answer_of state }
 {
     let best = choose(state);
-    let at = best.at;
-    let said = told(best, state.records[at].class);
-    Ran {
-        answer: said,
-        state: state,
-        ending: ending,
-    }
+    told(best, state.records[place(best)].class)
 }
 
 // The state after all events that read, the last answer, and what ended the reading.
-pub fn run(state: State, log: &[u8]) -> Ran
-    ensures { result ≡ ran state log.now }
+pub fn run(mut state: State, log: &[u8]) -> Ran
+    ensures { as_ran result ≡ ran state log.now }
 {
-    if is_sound(state) {
-        let got = read(log);
-        let Reading::Event(first) = got else {
-            return stand(state, ended(got, 0));
-        };
-        return act(state, first, log, EVENT_SIZE);
-    }
     // Nothing is read for a state that is not sound.
+    if !is_sound(state) {
+        return Ran {
+            answer: Err(Refusal::NotSound),
+            state,
+            ending: Err(Stop {
+                refusal: Refusal::NotSound,
+                offset: 0,
+            }),
+        };
+    }
+    let mut answer = Ok(stand(state));
+    let mut from = 0;
+    while let Ok(Some(event)) = read(&log[from..]) {
+        answer = act(&mut state, event);
+        from += EVENT_SIZE;
+    }
     Ran {
-        answer: Answer::Refused(15),
-        state: state,
-        ending: Ending::Stopped {
-            number: 15,
-            offset: 0,
-        },
+        answer,
+        state,
+        ending: ended(read(&log[from..]), from),
     }
 }

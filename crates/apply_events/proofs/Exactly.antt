@@ -20,7 +20,7 @@ use Rattle.state_rules.specs.State.{record_at}
 use Rattle.state_rules.specs.Sound.{StateSound}
 use Rattle.apply_ruling.specs.Ruling.{bar_of, taken, kept}
 use Rattle.apply_ruling.proofs.Bars as B
-use Rattle.apply_events.specs.declared.Applied.{Applied}
+use Rattle.apply_events.specs.Answer.{Applied}
 use Rattle.apply_events.specs.Answers.{refusal_of}
 use Rattle.apply_events.specs.Steps.{expired_all}
 use Rattle.apply_events.specs.Apply.{moved, carried_out, applied}

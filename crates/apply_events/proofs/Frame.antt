@@ -11,8 +11,8 @@ use Rattle.task_steps.proofs.OwnSteps.{expired_task, step_task}
 use Rattle.state_rules.specs.declared.State.{State}
 use Rattle.state_rules.specs.State.{record_at}
 use Rattle.state_rules.specs.Sound.{StateSound}
-use Rattle.apply_events.specs.declared.Answer.TheVariants.{Refused}
-use Rattle.apply_events.specs.declared.Applied.{Applied}
+use Rattle.apply_events.specs.Answer.{Refused}
+use Rattle.apply_events.specs.Answer.{Applied}
 use Rattle.apply_events.specs.Apply.{applied}
 use Rattle.apply_events.proofs.Happened.{never_refused, Happened, refusal, acceptance, happened}
 use Rattle.apply_events.proofs.Places.{places, expired_past, stored_else, stored_other, stored_place}

@@ -18,12 +18,12 @@ use Rattle.state_rules.specs.State.{record_at}
 use Rattle.state_rules.specs.Sound.{StateSound, state_holds}
 use Rattle.state_rules.specs.Choice.{chosen}
 use Rattle.state_rules.proofs.Sounding.{state_tells}
-use Rattle.apply_ruling.specs.declared.Ruling.{Ruling}
+use Rattle.apply_ruling.specs.Answer.{Ruling}
 use Rattle.apply_ruling.specs.Ruling.{bar_of, taken, kept, own_ruled, ruled}
 use Rattle.apply_ruling.proofs.Bars as B
-use Rattle.apply_events.specs.declared.Answer.{Answer}
-use Rattle.apply_events.specs.declared.Answer.TheVariants.{Refused}
-use Rattle.apply_events.specs.declared.Applied.{Applied}
+use Rattle.apply_events.specs.Answer.{Answer}
+use Rattle.apply_events.specs.Answer.{Refused}
+use Rattle.apply_events.specs.Answer.{Applied}
 use Rattle.apply_events.specs.Answers.{refusal_of}
 use Rattle.apply_events.specs.Steps.{expired_all}
 use Rattle.apply_events.specs.Apply.{answer_of, accepted, refused, carried_out, acted, applied}

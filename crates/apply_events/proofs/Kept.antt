@@ -17,7 +17,7 @@ use Rattle.task_soundness.proofs.Kept.{closed_sound, expired_sound, opened_sound
 use Rattle.state_rules.specs.declared.State.{State}
 use Rattle.state_rules.specs.State.{record_at}
 use Rattle.state_rules.specs.Sound.{limit, StateSound}
-use Rattle.apply_events.specs.declared.Applied.{Applied}
+use Rattle.apply_events.specs.Answer.{Applied}
 use Rattle.apply_events.specs.Steps.{expired_all}
 use Rattle.apply_events.specs.Apply.{moved, applied}
 use Rattle.apply_events.proofs.Happened.{Happened, refusal, acceptance, happened}

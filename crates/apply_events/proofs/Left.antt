@@ -14,7 +14,7 @@ use Rattle.task_steps.specs.Opening.{expired, no_record}
 use Rattle.task_steps.proofs.OwnSteps.{Step, tick, release, completion, after_tick, after_release, after_completion}
 use Rattle.state_rules.specs.declared.State.{State}
 use Rattle.state_rules.specs.State.{record_at}
-use Rattle.apply_events.specs.declared.Applied.{Applied}
+use Rattle.apply_events.specs.Answer.{Applied}
 use Rattle.apply_events.specs.Answers.{refusal_of}
 use Rattle.apply_events.specs.Steps.{expired_all}
 use Rattle.apply_events.specs.Apply.{moved, applied}

@@ -2,7 +2,7 @@
 pub mod Happened
 pub mod Exactly
 pub mod Left
-pub mod Chosen
+pub mod Choice
 pub mod Frame
 pub mod Kept
 pub mod Places
@@ -10,3 +10,4 @@ pub mod Runs
 pub mod After
 pub mod Worked
 pub mod Computing
+pub mod Views

@@ -10,8 +10,8 @@ use Rattle.event_reading.specs.declared.Event.{Event}
 use Rattle.event_reading.specs.Event.{a_tick, a_release, a_completion}
 use Rattle.state_rules.specs.declared.State.{State}
 use Rattle.state_rules.specs.State.{fresh_state}
-use Rattle.apply_events.specs.declared.Answer.{Answer}
-use Rattle.apply_events.specs.declared.Answer.TheVariants.{Run, Idle, Refused}
+use Rattle.apply_events.specs.Answer.{Answer}
+use Rattle.apply_events.specs.Answer.{Run, Idle, Refused}
 use Rattle.apply_events.specs.Apply.{applied}
 use Rattle.apply_events.proofs.Computing.{event_computes}
 

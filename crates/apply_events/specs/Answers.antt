@@ -1,8 +1,8 @@
 -- The rules' number and values for each case of an event's answer.
 use Rattle.std.specs.Prelude.{ℕ, [], ◌∷◌}
 use Rattle.laws.specs.Said.{Said}
-use Rattle.apply_events.specs.declared.Answer.{Answer}
-use Rattle.apply_events.specs.declared.Answer.TheVariants.{Run, Idle, Refused}
+use Rattle.apply_events.specs.Answer.{Answer}
+use Rattle.apply_events.specs.Answer.{Run, Idle, Refused}
 
 -- the chosen position and that job's class, if there is one
 abbrev pub answer_said : Answer → Said ℕ

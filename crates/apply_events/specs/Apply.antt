@@ -2,16 +2,16 @@
 use Rattle.std.specs.Prelude.{ℕ, cond, List, eqb, set}
 use Rattle.event_reading.specs.declared.Event.{Event}
 use Rattle.task_records.specs.declared.Record.{Record}
-use Rattle.state_choice.specs.declared.Best.{Best}
+use Rattle.state_choice.specs.Best.{Best}
 use Rattle.state_rules.specs.declared.State.{State}
 use Rattle.state_rules.specs.State.{record_at}
 use Rattle.state_rules.specs.Sound.{state_holds}
 use Rattle.state_rules.specs.Choice.{chosen}
-use Rattle.apply_ruling.specs.declared.Ruling.{Ruling}
+use Rattle.apply_ruling.specs.Answer.{Ruling}
 use Rattle.apply_ruling.specs.Ruling.{ruled}
-use Rattle.apply_events.specs.declared.Answer.{Answer}
-use Rattle.apply_events.specs.declared.Answer.TheVariants.{Run, Idle, Refused}
-use Rattle.apply_events.specs.declared.Applied.{Applied}
+use Rattle.apply_events.specs.Answer.{Answer}
+use Rattle.apply_events.specs.Answer.{Run, Idle, Refused}
+use Rattle.apply_events.specs.Answer.{Applied}
 use Rattle.apply_events.specs.Steps.{expired_all}
 
 -- run with the chosen position and that job's class, or idle

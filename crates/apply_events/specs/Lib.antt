@@ -1,4 +1,5 @@
 -- What an event does, in the rules' order.
+pub mod Answer
 pub mod Steps
 pub mod Apply
 pub mod Answers

@@ -1,14 +1,14 @@
 -- Rules, "Events and the clock", for a log: the events that read, one after the other, the last answer, and what ended the reading.
 use Rattle.std.specs.Prelude.{cond, List, [], ◌∷◌, ℕ}
 use Rattle.event_reading.specs.declared.Event.{Event}
-use Rattle.event_logs.specs.declared.Ending.{Ending}
-use Rattle.event_logs.specs.declared.Ending.TheVariants as E
+use Rattle.event_logs.specs.Stops.{Ending}
+use Rattle.event_logs.specs.Stops as E
 use Rattle.event_logs.specs.Log.{events_of}
 use Rattle.event_logs.specs.Ending.{ending_of}
 use Rattle.state_rules.specs.declared.State.{State}
 use Rattle.state_rules.specs.Sound.{state_holds}
-use Rattle.apply_events.specs.declared.Applied.{Applied}
-use Rattle.apply_events.specs.declared.Ran.{Ran}
+use Rattle.apply_events.specs.Answer.{Applied}
+use Rattle.apply_events.specs.Answer.{Ran}
 use Rattle.apply_events.specs.Apply.{answer_of, refused, applied}
 
 -- before any event: the choice as it stands

@@ -12,7 +12,7 @@ use Rattle.task_records.specs.declared.Record.{Record}
 use Rattle.task_steps.specs.Opening.{late, expired}
 use Rattle.task_steps.specs.Own.{own_fault, own_after}
 use Rattle.task_steps.proofs.OwnSteps.{expired_prompt, own_prompt}
-use Rattle.apply_ruling.specs.declared.Ruling.{Ruling}
+use Rattle.apply_ruling.specs.Answer.{Ruling}
 use Rattle.apply_ruling.specs.Ruling.{seat_of, taken, kept, own_ruled, ruled}
 use Rattle.apply_ruling.proofs.Bars.{Bars, unruled, untimely, no_task_lem, nothing, bar_is}
 

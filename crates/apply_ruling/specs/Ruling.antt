@@ -6,7 +6,7 @@ use Rattle.task_records.specs.declared.Record.{Record}
 use Rattle.task_steps.specs.Opening.{expired}
 use Rattle.task_steps.specs.Own.{own_fault, own_after}
 use Rattle.state_rules.specs.Sound.{limit}
-use Rattle.apply_ruling.specs.declared.Ruling.{Ruling}
+use Rattle.apply_ruling.specs.Answer.{Ruling}
 
 -- where the event's task stands, or the first place where there is no such task
 abbrev pub seat_of : ℕ → ℕ → ℕ

@@ -1,9 +1,11 @@
 // An event against its own task, on values: 7, 8, 9, 10, then what refuses it of its own task, and the task's record afterwards.
 ghost use Rattle.std.specs.Prelude.{◌≡◌};
+ghost use Rattle.refusals.specs.Numbers.{fault_in};
+ghost use Rattle.apply_ruling.specs.Answer.{as_ruling};
 ghost use Rattle.apply_ruling.specs.Ruling.{seat_of, bar_of, ruled};
 
-use super::Ruling;
 use event_reading::{Event, judge};
+use refusals::Refusal;
 use state_rules::LIMIT;
 use task_records::Record;
 use task_steps::opening::expire;
@@ -13,49 +15,31 @@ use task_steps::own::{own_after, own_fault};
 pub fn seat(task: u8, count: usize) -> usize
     ensures { result ≡ seat_of task count }
 {
-    let at = task as usize;
+    let at = usize::from(task);
     if at < count { at } else { 0 }
 }
 
-fn bar(clock: u64, count: usize, event: Event) -> u8
-    ensures { result ≡ bar_of clock count event }
+#[tactic(auto, unfolding(crate::specs::Ruling::bar_of))]
+fn bar(clock: u64, count: usize, event: Event) -> Result<(), Refusal>
+    ensures { fault_in result ≡ bar_of clock count event }
 {
-    let fault = judge(event);
-    if fault != 0 {
-        return fault;
+    judge(event)?;
+    if LIMIT < event.time || event.time < clock {
+        return Err(Refusal::EventTime);
     }
-    if LIMIT < event.time {
-        return 9;
+    if count <= usize::from(event.task) {
+        return Err(Refusal::NoTask);
     }
-    if event.time < clock {
-        return 9;
-    }
-    let task = event.task as usize;
-    if count <= task { 10 } else { 0 }
+    Ok(())
 }
 
-// A refused event leaves the record as it stood, step 1 undone too.
-pub fn rule(clock: u64, count: usize, of: Record, event: Event) -> Ruling
-    ensures { result ≡ ruled clock count of event }
+// The task's record after the event. A refused event leaves the record as it stood, step 1 undone too.
+#[tactic(auto, unfolding(crate::specs::Ruling::ruled))]
+pub fn rule(clock: u64, count: usize, of: Record, event: Event) -> Result<Record, Refusal>
+    ensures { as_ruling of result ≡ ruled clock count of event }
 {
-    let barred = bar(clock, count, event);
-    if barred != 0 {
-        return Ruling {
-            refusal: barred,
-            after: of,
-        };
-    }
+    bar(clock, count, event)?;
     let one = expire(of, event.time);
-    let fault = own_fault(one, event);
-    if fault != 0 {
-        return Ruling {
-            refusal: fault,
-            after: of,
-        };
-    }
-    let after = own_after(one, event);
-    Ruling {
-        refusal: 0,
-        after: after,
-    }
+    own_fault(one, event)?;
+    Ok(own_after(one, event))
 }

@@ -1,16 +1,16 @@
 -- What is answered of bytes: a log, all bounds, a listing.
 use Rattle.std.specs.Prelude.{ℕ, zero, suc, ◌+◌, min, List}
 use Rattle.table_rules.specs.declared.Table.{Table}
-use Rattle.table_rules.specs.declared.Answer.{Answer}
-use Rattle.table_rules.specs.declared.Answer.TheVariants as T
+use Rattle.table_rules.specs.Answers.{Answer}
+use Rattle.table_rules.specs.Answers as T
 use Rattle.table_reading.specs.Table.{read_table}
 use Rattle.state_rules.specs.State.{started}
-use Rattle.apply_events.specs.declared.Ran.{Ran}
+use Rattle.apply_events.specs.Answer.{Ran}
 use Rattle.apply_events.specs.Log.{ran}
 use Rattle.bound_one.specs.Answers.{bound_value}
 use Rattle.bound_one.specs.Asked.{one_answer}
-use Rattle.listing_of_input.specs.declared.Listing.{Listing}
-use Rattle.listing_of_input.specs.declared.Listing.TheVariants as L
+use Rattle.listing_of_input.specs.Answer.{Listing}
+use Rattle.listing_of_input.specs.Answer as L
 use Rattle.bench_sums.specs.Folds.{span, folded, answer_code}
 use Rattle.bench_sums.specs.Runs.{state_folded}
 

@@ -1,36 +1,28 @@
 // The bounds of all tasks, folded by position.
 ghost use Rattle.std.specs.Prelude.{◌≡◌, min};
+ghost use Rattle.bound_one.specs.Bound.{as_bound};
 ghost use Rattle.bound_one.specs.Answers.{bound_value};
 ghost use Rattle.bench.specs.Asked.{bound_sum};
 
 use bench_sums::fold;
-use bound_one::Bound;
 use bound_one::of_table::bound;
 use state_rules::choice::places;
-use table_rules::Table;
+use table_rules::{Refused, Table};
 
 // 0 where there is none.
-fn value(of: Bound) -> u64
-    ensures { result ≡ bound_value of }
+fn value(of: Result<u32, Refused>) -> u64
+    ensures { result ≡ bound_value (as_bound of) }
 {
-    match of {
-        Bound::At(r) => r as u64,
-        Bound::Refused {
-            number: _,
-            position: _,
-        } => 0,
-    }
+    of.unwrap_or(0) as u64
 }
 
+#[tactic(auto, unfolding(crate::specs::Asked::bound_sum))]
 pub fn sum(table: Table) -> u64
     ensures { result ≡ bound_sum table (min table.count 16) }
 {
-    let count = places(table.count);
     let mut sum: u64 = 0;
-    let mut k: usize = 0;
-    while k < count {
+    for k in 0..places(table.count) {
         sum = fold(sum, value(bound(table, k)));
-        k += 1;
     }
     sum
 }

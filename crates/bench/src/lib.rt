@@ -10,9 +10,9 @@ ghost use Rattle.bench.specs.Asked.{log_asked, bounds_asked, list_number};
 
 use bench_events::makers::{events, first, serves};
 use bench_runs::{apply_sum, rule_sum};
-use bench_sums::{fold_answer, fold_records};
+use bench_sums::{fold_answer, fold_records, state_in};
 use bench_table::table;
-use listing_of_input::{Listing, list};
+use listing_of_input::list;
 use state_rules::fresh::start;
 
 // The events of a rule alone.
@@ -20,10 +20,10 @@ use state_rules::fresh::start;
 pub extern "C" fn brumerola_bench_rule(tasks: u64, rule: u64, count: u64, seed: u64) -> u64
     ensures { result ≡ rule_asked tasks rule count seed }
 {
-    if serves(tasks, rule) {
-        return rule_sum(first(tasks, rule, seed), events(count));
+    if !serves(tasks, rule) {
+        return 0;
     }
-    0
+    rule_sum(first(tasks, rule, seed), events(count))
 }
 
 // The engine by value.
@@ -31,13 +31,12 @@ pub extern "C" fn brumerola_bench_rule(tasks: u64, rule: u64, count: u64, seed: 
 pub extern "C" fn brumerola_bench_apply(tasks: u64, rule: u64, count: u64, seed: u64) -> u64
     ensures { result ≡ run_asked tasks rule count seed }
 {
-    if serves(tasks, rule) {
-        let maker = first(tasks, rule, seed);
-        let begun = start(table(maker.tasks));
-        let state = begun.state;
-        return apply_sum(state, maker, events(count));
+    if !serves(tasks, rule) {
+        return 0;
     }
-    0
+    let maker = first(tasks, rule, seed);
+    let state = state_in(start(table(maker.tasks)));
+    apply_sum(state, maker, events(count))
 }
 
 // A log of bytes, from the table's fresh state.
@@ -45,29 +44,30 @@ pub extern "C" fn brumerola_bench_apply(tasks: u64, rule: u64, count: u64, seed:
 pub extern "C" fn brumerola_bench_log(table: &[u8], log: &[u8]) -> u64
     ensures { result ≡ log_asked table.now log.now }
 {
-    let read = table_reading::table::read(table);
-    let answer = read.answer;
-    if let table_rules::Answer::Refused {
-        number: number,
-        position: _,
-    } = answer
-    {
-        return 2048 + number as u64;
+    match table_reading::table::read(table) {
+        Ok(read) => {
+            let state = state_in(start(read));
+            let ran = apply_engine::log::run(state, log);
+            fold_records(
+                fold_answer(0, ran.answer),
+                ran.state.records,
+                ran.state.count,
+            )
+        }
+        Err(refused) => 2048 + refused.refusal.number() as u64,
     }
-    let begun = start(read.table);
-    let ran = apply_engine::log::run(begun.state, log);
-    let said = ran.answer;
-    let records = ran.state.records;
-    fold_records(fold_answer(0, said), records, ran.state.count)
 }
 
 // All bounds of a table of bytes, one by one.
+#[tactic(auto, unfolding(crate::specs::Asked::bound_sum))]
 #[unsafe(no_mangle)]
 pub extern "C" fn brumerola_bench_bounds(table: &[u8]) -> u64
     ensures { result ≡ bounds_asked table.now }
 {
-    let read = table_reading::table::read(table);
-    bounds::sum(read.table)
+    match table_reading::table::read(table) {
+        Ok(read) => bounds::sum(read),
+        Err(_) => 0,
+    }
 }
 
 // The listing of an input: its bytes, or 2^40 where it is refused.
@@ -76,9 +76,8 @@ pub extern "C" fn brumerola_bench_list(input: &[u8], out: &mut [u8]) -> u64
     ensures { (result ≡ list_number (list_answer input.now (length out.old)))
         × (out.new ≡ listed_into input.now out.old) }
 {
-    let listed = list(input, out);
-    match listed {
-        Listing::Text(n) => n as u64,
-        Listing::Refused(_) => 1099511627776,
+    match list(input, out) {
+        Ok(n) => n as u64,
+        Err(_) => 1099511627776,
     }
 }

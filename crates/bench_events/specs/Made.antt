@@ -1,7 +1,8 @@
--- The event that a rule makes, and what rule 1 then keeps of each task: due at its position, free 16 places on, jobs 32 places on.
-use Rattle.std.specs.Prelude.{ℕ, ◌+◌, ◌-◌, ◌*◌, ◌/◌, ◌%◌, cond, List, ◌==◌, nat_le, nat_lt, slice_index, slice_set}
+-- The event that a rule makes, and what rule 1 then keeps of each task at its position.
+use Rattle.std.specs.Prelude.{ℕ, ◌+◌, ◌-◌, ◌*◌, ◌/◌, ◌%◌, cond, List, ◌==◌, nat_le, nat_lt, get_or, set}
 use Rattle.event_reading.specs.declared.Event.{Event}
 use Rattle.event_reading.specs.Event.{a_tick, a_release, a_completion}
+use Rattle.bench_events.specs.declared.Kept.{Kept}
 use Rattle.bench_events.specs.declared.Maker.{Maker}
 use Rattle.bench_table.specs.Table.{count_of, spacing_of}
 use Rattle.bench_events.specs.Maker.{plus}
@@ -20,31 +21,33 @@ completion_at i job time = record { kind = a_completion; task = i; job = job; ti
 abbrev pub seat_of : Maker → ℕ
 seat_of k = k.x / 65536 % count_of k.tasks
 
--- due, free and jobs of a task
-abbrev pub due_at : List ℕ → ℕ → ℕ
-due_at l i = slice_index l i
+-- before the first event of a task
+abbrev pub none_kept : Kept
+none_kept = record { due = 0; free = 0; jobs = 0 }
 
-abbrev pub free_at : List ℕ → ℕ → ℕ
-free_at l i = slice_index l (i + 16)
-
-abbrev pub jobs_at : List ℕ → ℕ → ℕ
-jobs_at l i = slice_index l (i + 32)
+-- what is kept of the task whose event it is
+abbrev pub kept_of : List Kept → Maker → Kept
+kept_of l k = get_or l (seat_of k) none_kept
 
 -- one of three: the open job is completed, a job is released, or there is a tick
-abbrev pub of_three : {A : Type 0} → List ℕ → Maker → A → A → A → A
-of_three l k done opened none = cond (nat_le k.time (due_at l (seat_of k))) done (cond (nat_le (free_at l (seat_of k)) k.time) opened none)
+abbrev pub of_three : {A : Type 0} → Kept → ℕ → A → A → A → A
+of_three p time done opened none = cond (nat_le time p.due) done (cond (nat_le p.free time) opened none)
 
-unfoldable pub chance_event : List ℕ → Maker → Event
+unfoldable pub chance_event : List Kept → Maker → Event
 chance_event l k =
-    of_three l k (completion_at (seat_of k) (jobs_at l (seat_of k)) k.time) (release_at (seat_of k) k.time) (tick_at k.time)
+    of_three (kept_of l k) k.time (completion_at (seat_of k) (kept_of l k).jobs k.time) (release_at (seat_of k) k.time) (tick_at k.time)
 
 -- after a completion nothing is due; after a release due and free are the deadline, and there is one job more
-abbrev pub opened_at : List ℕ → ℕ → ℕ → List ℕ
-opened_at l i due = slice_set (slice_set (slice_set l i due) (i + 16) due) (i + 32) (plus (jobs_at l i) 1)
+abbrev pub completed : Kept → Kept
+completed p = record { due = 0; free = p.free; jobs = p.jobs }
 
-unfoldable pub chance_cells : List ℕ → Maker → List ℕ
+abbrev pub released : Kept → ℕ → Kept
+released p due = record { due = due; free = due; jobs = plus p.jobs 1 }
+
+unfoldable pub chance_cells : List Kept → Maker → List Kept
 chance_cells l k =
-    of_three l k (slice_set l (seat_of k) 0) (opened_at l (seat_of k) (plus k.time (spacing_of k.tasks (seat_of k)))) l
+    of_three (kept_of l k) k.time (set l (seat_of k) (completed (kept_of l k)))
+    (set l (seat_of k) (released (kept_of l k) (plus k.time (spacing_of k.tasks (seat_of k))))) l
 
 -- ---- rules 2 and 3, by the number of events before
 
@@ -69,8 +72,8 @@ once_event k turn = once_by (count_of k.tasks) (round_of (count_of k.tasks) turn
 
 -- ---- by the rule
 
-unfoldable pub made_event : List ℕ → Maker → ℕ → Event
+unfoldable pub made_event : List Kept → Maker → ℕ → Event
 made_event l k turn = cond (k.rule == 1) (chance_event l k) (cond (k.rule == 2) (turn_event k turn) (once_event k turn))
 
-unfoldable pub made_cells : List ℕ → Maker → ℕ → List ℕ
+unfoldable pub made_cells : List Kept → Maker → ℕ → List Kept
 made_cells l k turn = cond (k.rule == 1) (chance_cells l k) l

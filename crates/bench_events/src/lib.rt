@@ -14,5 +14,10 @@ pub struct Maker {
     pub time: u64,
 }
 
-// The places of the three rows due, free and jobs, one behind the other.
-pub const CELLS: usize = 48;
+// What rule 1 keeps of a task: the deadline of its open job (0: none is open), when the next job may be released, and how many were.
+#[derive(Clone, Copy, Debug, Default, PartialEq, Eq)]
+pub struct Kept {
+    pub due: u64,
+    pub free: u64,
+    pub jobs: u64,
+}

@@ -3,10 +3,10 @@ ghost use Rattle.std.specs.Prelude.{◌≡◌, ◌<◌};
 ghost use Rattle.bench_events.specs.Made.{seat_of, tick_at, release_at, completion_at, chance_event, chance_cells};
 ghost use Rattle.bench_events.specs.Made.{turn_event, once_event, made_event, made_cells};
 
-use super::{CELLS, Maker};
+use super::{Kept, Maker};
 use bench_table::{count, spacing};
 use event_reading::{COMPLETION, Event, RELEASE, TICK};
-use std::num::wrapping_add_u64;
+use table_rules::PLACES;
 
 pub fn tick(time: u64) -> Event
     ensures { result ≡ tick_at time }
@@ -15,7 +15,7 @@ pub fn tick(time: u64) -> Event
         kind: TICK,
         task: 0,
         job: 0,
-        time: time,
+        time,
     }
 }
 
@@ -24,9 +24,9 @@ pub fn release(task: u8, time: u64) -> Event
 {
     Event {
         kind: RELEASE,
-        task: task,
+        task,
         job: 0,
-        time: time,
+        time,
     }
 }
 
@@ -35,12 +35,13 @@ pub fn completion(task: u8, job: u64, time: u64) -> Event
 {
     Event {
         kind: COMPLETION,
-        task: task,
-        job: job,
-        time: time,
+        task,
+        job,
+        time,
     }
 }
 
+#[tactic(auto, using(crate::proofs::Laws::seated))]
 fn seat(maker: Maker) -> u8
     ensures { (result ≡ seat_of maker) × (result < 16) }
 {
@@ -49,29 +50,31 @@ fn seat(maker: Maker) -> u8
 }
 
 // Rule 1: the task's open job is completed, or a job is released, or there is a tick.
-fn by_chance(cells: &mut [u64; CELLS], maker: Maker) -> Event
+#[tactic(auto, unfolding(crate::specs::Made::chance_event, crate::specs::Made::chance_cells))]
+fn by_chance(cells: &mut [Kept; PLACES], maker: Maker) -> Event
     ensures { (result ≡ chance_event cells.old maker) × (cells.new ≡ chance_cells cells.old maker) }
 {
     let task = seat(maker);
-    let at = task as usize;
     let time = maker.time;
-    if time <= cells[at] {
-        let job = cells[at + 32];
-        cells[at] = 0;
-        return completion(task, job, time);
+    let kept = &mut cells[usize::from(task)];
+    if time <= kept.due {
+        kept.due = 0;
+        return completion(task, kept.jobs, time);
     }
-    if cells[at + 16] <= time {
-        let due = wrapping_add_u64(time, spacing(maker.tasks, task) as u64);
-        let job = wrapping_add_u64(cells[at + 32], 1);
-        cells[at] = due;
-        cells[at + 16] = due;
-        cells[at + 32] = job;
+    if kept.free <= time {
+        let due = time.wrapping_add(u64::from(spacing(maker.tasks, task)));
+        *kept = Kept {
+            due,
+            free: due,
+            jobs: kept.jobs.wrapping_add(1),
+        };
         return release(task, time);
     }
     tick(time)
 }
 
 // Rule 2: the tasks in turn, a release and its completion.
+#[tactic(auto, unfolding(crate::specs::Made::turn_event), using(crate::proofs::Laws::seated, crate::proofs::Laws::over))]
 fn in_turn(maker: Maker, turn: u32) -> Event
     ensures { result ≡ turn_event maker turn }
 {
@@ -79,33 +82,35 @@ fn in_turn(maker: Maker, turn: u32) -> Event
     let pair = turn / 2;
     let task = (pair % n) as u8;
     if turn % 2 == 0 {
-        return release(task, maker.time);
+        release(task, maker.time)
+    } else {
+        completion(task, u64::from(pair / n) + 1, maker.time)
     }
-    completion(task, (pair / n) as u64 + 1, maker.time)
 }
 
 // Rule 3: all tasks are released at one tick, and completed two at a tick.
+#[tactic(auto, unfolding(crate::specs::Made::once_event), using(crate::proofs::Laws::over))]
 fn at_once(maker: Maker, turn: u32) -> Event
     ensures { result ≡ once_event maker turn }
 {
     let n = count(maker.tasks);
-    let round = (turn / (2 * n)) as u64;
+    let round = u64::from(turn / (2 * n));
     let k = turn % (2 * n);
     if k < n {
-        return release(k as u8, 32 * round);
+        release(k as u8, 32 * round)
+    } else {
+        let task = k - n;
+        completion(task as u8, round + 1, 32 * round + u64::from(task / 2))
     }
-    let task = k - n;
-    completion(task as u8, round + 1, 32 * round + (task / 2) as u64)
 }
 
-pub fn made(cells: &mut [u64; CELLS], maker: Maker, turn: u32) -> Event
+#[tactic(auto, unfolding(crate::specs::Made::made_event, crate::specs::Made::made_cells))]
+pub fn made(cells: &mut [Kept; PLACES], maker: Maker, turn: u32) -> Event
     ensures { (result ≡ made_event cells.old maker turn) × (cells.new ≡ made_cells cells.old maker turn) }
 {
-    if maker.rule == 1 {
-        return by_chance(cells, maker);
+    match maker.rule {
+        1 => by_chance(cells, maker),
+        2 => in_turn(maker, turn),
+        _ => at_once(maker, turn),
     }
-    if maker.rule == 2 {
-        return in_turn(maker, turn);
-    }
-    at_once(maker, turn)
 }

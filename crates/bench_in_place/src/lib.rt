@@ -3,6 +3,7 @@
 
 ghost use Rattle.std.specs.Prelude.{◌≡◌, ◌≤◌};
 ghost use Rattle.table_rules.specs.Limits.{place_count};
+ghost use Rattle.apply_events.specs.Answer.{as_told};
 ghost use Rattle.bench_sums.specs.Folds.{folded, answer_code};
 ghost use Rattle.bench_sums.specs.Runs.{run_sum};
 
@@ -15,34 +16,32 @@ use lent_answers::Turn;
 use lent_engine::apply::apply_in;
 use state_rules::State;
 use table_rules::PLACES;
-use task_records::Record;
 
 pub fn fold_turn(sum: u64, turn: Turn) -> u64
-    ensures { result ≡ folded sum (answer_code turn.answer) }
+    ensures { result ≡ folded sum (answer_code (as_told turn.answer)) }
 {
-    let said = turn.answer;
-    fold_answer(sum, said)
+    fold_answer(sum, turn.answer)
 }
 
-fn run_in(records: [Record; PLACES], count: usize, begins: u64, maker: Maker, events: u32) -> u64
-    requires { count ≤ place_count }
-    ensures { result ≡ run_sum (record { count = count; clock = begins; records = records }) maker events }
+fn run_in(first: State, mut maker: Maker, events: u32) -> u64
+    requires { first.count ≤ place_count }
+    ensures { result ≡ run_sum first maker events }
 {
-    let mut row = records;
+    let State {
+        count,
+        mut clock,
+        mut records,
+    } = first;
     let mut kept = cells();
-    let mut next = maker;
-    let mut clock = begins;
-    let mut sum: u64 = 0;
-    let mut i: u32 = 0;
-    while i < events {
-        next = drawn(next);
-        let event = made(&mut kept, next, i);
-        let turn = apply_in(&mut row[..count], clock, event);
+    let mut sum = 0;
+    for i in 0..events {
+        maker = drawn(maker);
+        let event = made(&mut kept, maker, i);
+        let turn = apply_in(&mut records[..count], clock, event);
         clock = turn.clock;
         sum = fold_turn(sum, turn);
-        i += 1;
     }
-    fold_records(sum, row, count)
+    fold_records(sum, records, count)
 }
 
 pub fn row_sum(first: State, maker: Maker, events: u32) -> u64
@@ -52,6 +51,5 @@ pub fn row_sum(first: State, maker: Maker, events: u32) -> u64
     if PLACES < first.count {
         return apply_sum(first, maker, events);
     }
-    let records = first.records;
-    run_in(records, first.count, first.clock, maker, events)
+    run_in(first, maker, events)
 }

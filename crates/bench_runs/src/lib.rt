@@ -5,7 +5,6 @@ ghost use Rattle.std.specs.Prelude.{◌≡◌};
 ghost use Rattle.bench_sums.specs.Runs.{event_sum, run_sum};
 
 use apply_engine::apply::apply;
-use apply_events::{Answer, Applied};
 use bench_events::Maker;
 use bench_events::made::made;
 use bench_events::makers::{cells, drawn};
@@ -18,12 +17,9 @@ pub fn rule_sum(maker: Maker, events: u32) -> u64
     let mut kept = cells();
     let mut next = maker;
     let mut sum: u64 = 0;
-    let mut i: u32 = 0;
-    while i < events {
+    for i in 0..events {
         next = drawn(next);
-        let event = made(&mut kept, next, i);
-        sum = fold_event(sum, event);
-        i += 1;
+        sum = fold_event(sum, made(&mut kept, next, i));
     }
     sum
 }
@@ -31,23 +27,16 @@ pub fn rule_sum(maker: Maker, events: u32) -> u64
 pub fn apply_sum(first: State, maker: Maker, events: u32) -> u64
     ensures { result ≡ run_sum first maker events }
 {
-    let mut done = Applied {
-        answer: Answer::Idle,
-        state: first,
-    };
+    let mut state = first;
     let mut kept = cells();
     let mut next = maker;
     let mut sum: u64 = 0;
-    let mut i: u32 = 0;
-    while i < events {
+    for i in 0..events {
         next = drawn(next);
-        let event = made(&mut kept, next, i);
         // The state goes back in where it stands: no copy but the engine's own.
-        done = apply(done.state, event);
-        let said = done.answer;
-        sum = fold_answer(sum, said);
-        i += 1;
+        let done = apply(state, made(&mut kept, next, i));
+        state = done.state;
+        sum = fold_answer(sum, done.answer);
     }
-    let records = done.state.records;
-    fold_records(sum, records, done.state.count)
+    fold_records(sum, state.records, state.count)
 }

@@ -4,7 +4,7 @@ use mathlib.Core.Path.{◌≡◌, refl}
 use native.Mathlib.Numerals.{add-one}
 use Rattle.event_reading.specs.declared.Event.{Event}
 use Rattle.state_rules.specs.declared.State.{State}
-use Rattle.apply_events.specs.declared.Applied.{Applied}
+use Rattle.apply_events.specs.Answer.{Applied}
 use Rattle.apply_events.specs.Apply.{applied}
 use Rattle.bench_events.specs.declared.Maker.{Maker}
 use Rattle.bench_events.specs.Events.{event_at}

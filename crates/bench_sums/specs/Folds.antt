@@ -3,8 +3,8 @@ use Rattle.std.specs.Prelude.{ℕ, zero, suc, ◌+◌, ◌*◌, ◌%◌, List, g
 use Rattle.event_reading.specs.declared.Event.{Event}
 use Rattle.task_records.specs.declared.Record.{Record}
 use Rattle.task_steps.specs.Opening.{no_record}
-use Rattle.apply_events.specs.declared.Answer.{Answer}
-use Rattle.apply_events.specs.declared.Answer.TheVariants.{Run, Idle, Refused}
+use Rattle.apply_events.specs.Answer.{Answer}
+use Rattle.apply_events.specs.Answer.{Run, Idle, Refused}
 
 -- 2^40
 abbrev pub span : ℕ

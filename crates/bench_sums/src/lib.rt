@@ -2,13 +2,17 @@
 #![tactic(auto)]
 
 ghost use Rattle.std.specs.Prelude.{◌≡◌, min};
+ghost use Rattle.state_rules.specs.State.{as_started};
+ghost use Rattle.apply_events.specs.Answer.{as_told};
 ghost use Rattle.bench_sums.specs.Folds.{folded, answer_code, event_code, record_folded, records_folded};
 
 use apply_events::Answer;
 use event_reading::Event;
+use state_rules::State;
 use state_rules::choice::places;
-use table_rules::PLACES;
+use table_rules::{PLACES, Refused};
 use task_records::Record;
+use task_steps::opening::no_record;
 
 // 2^40.
 const SPAN: u64 = 1099511627776;
@@ -28,17 +32,18 @@ pub fn fold_event(sum: u64, event: Event) -> u64
     )
 }
 
+#[tactic(auto, using(crate::proofs::Laws::same_run))]
 pub fn fold_answer(sum: u64, said: Answer) -> u64
-    ensures { result ≡ folded sum (answer_code said) }
+    ensures { result ≡ folded sum (answer_code (as_told said)) }
 {
     match said {
         // The remainder keeps the product within 64 bits and changes no sum.
-        Answer::Run {
-            position: p,
-            class: q,
-        } => fold(sum, 64 * (p as u64 % SPAN) + q as u64),
-        Answer::Idle => fold(sum, 1024),
-        Answer::Refused(n) => fold(sum, 2048 + n as u64),
+        Ok(Some(chosen)) => fold(
+            sum,
+            64 * (chosen.position as u64 % SPAN) + chosen.class as u64,
+        ),
+        Ok(None) => fold(sum, 1024),
+        Err(refusal) => fold(sum, 2048 + refusal.number() as u64),
     }
 }
 
@@ -52,15 +57,24 @@ pub fn fold_record(sum: u64, of: Record) -> u64
     fold(marks, of.broken)
 }
 
+#[tactic(auto, unfolding(crate::specs::Folds::records_folded))]
 pub fn fold_records(sum: u64, records: [Record; PLACES], count: usize) -> u64
     ensures { result ≡ records_folded sum records (min count 16) }
 {
-    let n = places(count);
     let mut folded = sum;
-    let mut i: usize = 0;
-    while i < n {
+    for i in 0..places(count) {
         folded = fold_record(folded, records[i]);
-        i += 1;
     }
     folded
+}
+
+// The state that a table starts; where the table is refused, one of no tasks.
+pub fn state_in(started: Result<State, Refused>) -> State
+    ensures { result ≡ (as_started started).state }
+{
+    started.unwrap_or(State {
+        count: 0,
+        clock: 0,
+        records: [no_record(); PLACES],
+    })
 }

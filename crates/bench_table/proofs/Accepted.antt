@@ -3,7 +3,7 @@ use mathlib.Core.Path.{◌≡◌, refl}
 use mathlib.Core.List.{[], ◌∷◌, map}
 use lib.ListN.{replicate}
 use Rattle.laws.specs.Stores.{filled}
-use Rattle.table_rules.specs.declared.Answer.TheVariants.{Accepted}
+use Rattle.table_rules.specs.Answers.{Accepted}
 use Rattle.table_rules.specs.Rules.{task_fault}
 use Rattle.table_rules.specs.Judging.{first_fault, judged}
 use Rattle.bench_table.specs.Table.{table_of}

@@ -10,61 +10,51 @@ use table_rules::{PLACES, Table, Task};
 pub fn count(tasks: u32) -> u32
     ensures { (result ≡ count_of tasks) × ((1 ≤ result) × (result ≤ 16)) }
 {
-    if tasks < 1 {
-        return 1;
-    }
-    if 16 < tasks {
-        return 16;
-    }
-    tasks
+    tasks.clamp(1, 16)
 }
 
 pub fn spacing(tasks: u32, at: u8) -> u32
     ensures { result ≡ spacing_of tasks at }
 {
-    if tasks == 1 {
-        return 22;
-    }
-    11 + at as u32
+    if tasks == 1 { 22 } else { 11 + u32::from(at) }
 }
 
 pub fn task(tasks: u32, at: u8) -> Task
     ensures { result ≡ task_at tasks at }
 {
-    let misses = [1u8, 2, 1, 2, 3, 63, 1, 0];
-    let windows = [2u8, 3, 3, 5, 5, 64, 64, 1];
-    let pair = (at as usize + 2) % 8;
+    let pairs = [
+        (1u8, 2u8),
+        (2, 3),
+        (1, 3),
+        (2, 5),
+        (3, 5),
+        (63, 64),
+        (1, 64),
+        (0, 1),
+    ];
+    let pair = (usize::from(at) + 2) % 8;
+    let (m, k) = pairs[pair];
     let spaced = spacing(tasks, at);
     Task {
         c: 1,
         d: spaced,
         t: spaced,
-        m: misses[pair],
-        k: windows[pair],
+        m,
+        k,
     }
 }
 
+#[tactic(auto, unfolding(laws::specs::Stores::filled))]
 pub fn table(tasks: u32) -> Table
     ensures { result ≡ table_of tasks }
 {
-    let none = Task {
-        c: 0,
-        d: 0,
-        t: 0,
-        m: 0,
-        k: 0,
-    };
-    let n = count(tasks);
-    let mut row = [none; PLACES];
-    let mut i: u8 = 0;
-    while (i as u32) < n {
-        let one = task(n, i);
-        let at = i as usize;
-        row[at] = one;
-        i += 1;
+    let count = count(tasks);
+    let mut row = [Task::default(); PLACES];
+    for i in 0..count as u8 {
+        row[usize::from(i)] = task(count, i);
     }
     Table {
-        count: n as usize,
+        count: count as usize,
         tasks: row,
     }
 }

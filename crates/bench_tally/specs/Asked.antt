@@ -1,7 +1,7 @@
 -- What is answered of table bytes and log bytes: the report from the table's fresh state and fresh tallies.
 use Rattle.std.specs.Prelude.{ℕ, ◌+◌, List}
-use Rattle.table_rules.specs.declared.Answer.{Answer}
-use Rattle.table_rules.specs.declared.Answer.TheVariants as T
+use Rattle.table_rules.specs.Answers.{Answer}
+use Rattle.table_rules.specs.Answers as T
 use Rattle.table_reading.specs.Table.{read_table}
 use Rattle.state_rules.specs.declared.State.{State}
 use Rattle.state_rules.specs.State.{started}

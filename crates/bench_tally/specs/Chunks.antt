@@ -1,12 +1,12 @@
 -- A report that goes over its log chunk by chunk, as the program does: state and tallies are carried on.
 use Rattle.std.specs.Prelude.{ℕ, zero, suc, ◌+◌, ◌*◌, ◌/◌, Bool, true, false, cond, List, length, take, drop}
-use Rattle.event_logs.specs.declared.Ending.{Ending}
-use Rattle.event_logs.specs.declared.Ending.TheVariants as E
+use Rattle.event_logs.specs.Stops.{Ending}
+use Rattle.event_logs.specs.Stops as E
 use Rattle.state_rules.specs.declared.State.{State}
-use Rattle.tally_rules.specs.declared.Answer.{Answer}
-use Rattle.tally_rules.specs.declared.Answer.TheVariants as A
 use Rattle.tally_rules.specs.declared.Tallies.{Tallies}
-use Rattle.tally_histories.specs.declared.Reported.{Reported}
+use Rattle.tally_rules.specs.Answer.{Answer}
+use Rattle.tally_rules.specs.Answer as A
+use Rattle.tally_histories.specs.Answer.{Reported}
 use Rattle.tally_histories.specs.Report.{reported}
 
 -- 3,276 records

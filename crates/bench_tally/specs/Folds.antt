@@ -1,21 +1,20 @@
 -- All that a report holds, folded into one number.
-use Rattle.std.specs.Prelude.{ℕ, zero, suc, ◌+◌, min, List, get_or}
-use Rattle.event_logs.specs.declared.Ending.{Ending}
-use Rattle.event_logs.specs.declared.Ending.TheVariants as E
-use Rattle.tally_rules.specs.declared.Answer.{Answer}
-use Rattle.tally_rules.specs.declared.Answer.TheVariants as A
+use Rattle.std.specs.Prelude.{Option, None, Some, ℕ, zero, suc, ◌+◌, min, List, get_or}
+use Rattle.event_logs.specs.Stops.{Ending}
+use Rattle.event_logs.specs.Stops as E
 use Rattle.tally_rules.specs.declared.Span.{Span}
-use Rattle.tally_rules.specs.declared.Span.TheVariants.{Absent, Between}
 use Rattle.tally_rules.specs.declared.Tally.{Tally}
 use Rattle.tally_rules.specs.declared.Tallies.{Tallies}
+use Rattle.tally_rules.specs.Answer.{Answer}
+use Rattle.tally_rules.specs.Answer as A
 use Rattle.tally_rules.specs.Tally.{cell_count, tally_at}
-use Rattle.tally_histories.specs.declared.Reported.{Reported}
+use Rattle.tally_histories.specs.Answer.{Reported}
 use Rattle.bench_sums.specs.Folds.{folded}
 
 -- an absent one is told from 0
-abbrev pub span_folded : ℕ → Span → ℕ
-span_folded sum Absent = folded (folded sum 0) 0
-span_folded sum (Between least most) = folded (folded sum (least + 1)) (most + 1)
+abbrev pub span_folded : ℕ → Option Span → ℕ
+span_folded sum None = folded (folded sum 0) 0
+span_folded sum (Some s) = folded (folded sum (s.least + 1)) (s.most + 1)
 
 -- the first n cells
 unfoldable pub cells_folded : ℕ → List ℕ → ℕ → ℕ

@@ -1,23 +1,21 @@
 // A report folded into one number: what ended the reading, and then all that each task's tally holds.
 ghost use Rattle.std.specs.Prelude.{◌≡◌, min};
+ghost use Rattle.event_logs.specs.Stops.{as_ending};
 ghost use Rattle.tally_rules.specs.Tally.{cell_count};
-ghost use Rattle.bench_tally.specs.Folds.{span_folded, cells_folded, tally_folded, tallies_folded, ending_code, report_folded};
+ghost use Rattle.bench_tally.specs.Folds.{span_folded, cells_folded, tally_folded, tallies_folded, ending_code};
 
 use bench_sums::fold;
-use event_logs::Ending;
+use event_logs::Stop;
 use state_rules::choice::places;
 use tally_histories::Reported;
-use tally_rules::{Answer, CELLS, Span, Tallies, Tally};
+use tally_rules::{CELLS, Span, Tallies, Tally};
 
-fn fold_span(sum: u64, span: Span) -> u64
+fn fold_span(sum: u64, span: Option<Span>) -> u64
     ensures { result ≡ span_folded sum span }
 {
     match span {
-        Span::Absent => fold(fold(sum, 0), 0),
-        Span::Between {
-            least: least,
-            most: most,
-        } => fold(fold(sum, least as u64 + 1), most as u64 + 1),
+        None => fold(fold(sum, 0), 0),
+        Some(Span { least, most }) => { fold(fold(sum, u64::from(least) + 1), u64::from(most) + 1) }
     }
 }
 
@@ -25,10 +23,8 @@ fn fold_cells(sum: u64, cells: [u64; CELLS]) -> u64
     ensures { result ≡ cells_folded sum cells cell_count }
 {
     let mut folded = sum;
-    let mut c: usize = 0;
-    while c < CELLS {
-        folded = fold(folded, cells[c]);
-        c += 1;
+    for cell in cells {
+        folded = fold(folded, cell);
     }
     folded
 }
@@ -36,45 +32,31 @@ fn fold_cells(sum: u64, cells: [u64; CELLS]) -> u64
 fn fold_tally(sum: u64, of: Tally) -> u64
     ensures { result ≡ tally_folded sum of }
 {
-    let met = fold(fold(sum, of.d as u64), of.met);
-    let span = of.span;
-    let spanned = fold_span(met, span);
-    let cells = of.cells;
-    fold_cells(fold(spanned, of.sum), cells)
+    let met = fold(fold(sum, u64::from(of.d)), of.met);
+    fold_cells(fold(fold_span(met, of.span), of.sum), of.cells)
 }
 
 fn fold_tallies(sum: u64, of: Tallies, count: usize) -> u64
     ensures { result ≡ tallies_folded sum of (min count 16) }
 {
-    let n = places(count);
     let mut folded = sum;
-    let mut i: usize = 0;
-    while i < n {
-        folded = fold_tally(folded, of.row[i]);
-        i += 1;
+    for tally in &of.row[..places(count)] {
+        folded = fold_tally(folded, *tally);
     }
     folded
 }
 
-fn ending_code(ending: Ending) -> u64
-    ensures { result ≡ ending_code ending }
+fn ending_code(ending: Result<(), Stop>) -> u64
+    ensures { result ≡ ending_code (as_ending ending) }
 {
     match ending {
-        Ending::Whole => 0,
-        Ending::Stopped {
-            number: number,
-            offset: offset,
-        } => fold(number as u64, offset as u64),
+        Ok(()) => 0,
+        Err(Stop { refusal, offset }) => fold(u64::from(refusal.number()), offset as u64),
     }
 }
 
 pub fn fold_report(of: Reported) -> u64
-    ensures { result ≡ report_folded of }
+    ensures { result ≡ tallies_folded (ending_code (as_ending of.ending)) of.tallies (min of.state.count 16) }
 {
-    let answer = of.answer;
-    if let Answer::Refused(number) = answer {
-        return 2048 + number as u64;
-    }
-    let ending = of.ending;
-    fold_tallies(ending_code(ending), of.tallies, of.state.count)
+    fold_tallies(ending_code(of.ending), of.tallies, of.state.count)
 }

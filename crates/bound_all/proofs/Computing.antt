@@ -5,5 +5,5 @@ use Rattle.bound_all.specs.Asked.{all_answer, all_cells}
 
 -- `all_answer` and `all_cells` of a table that is written out
 unfoldable pub bounds_compute : Unit {0}
-unfolding all_answer all_cells filled bound_computes
+unfolding filled bound_computes
 bounds_compute = tt

@@ -7,13 +7,13 @@ use mathlib.Core.Logic.{◌↔◌}
 use native.Mathlib.Omega.{arith}
 use borrow.Author.Tests.{le-leb, lt-leb, leb-true, leb-false}
 use lib.Dec.{leb}
+use Rattle.std.specs.Prelude.{Option, Some, None}
 use Rattle.laws.proofs.Tests.{impossible, single}
 use Rattle.table_rules.specs.declared.Table.{Table}
-use Rattle.table_rules.specs.declared.Answer.{Answer}
+use Rattle.table_rules.specs.Answers.{Answer}
 use Rattle.table_rules.specs.Answers.{number_of, position_of}
 use Rattle.table_rules.specs.Judging.{judged, first_fault}
 use Rattle.table_rules.proofs.Faults.{First, none_if, none_then, found_if, found_then}
-use Rattle.bound_search.specs.declared.Found.{Found}
 use Rattle.bound_search.specs.Answers.{found_number}
 use Rattle.bound_search.specs.Bound.{IsBound, NoBound, bound_of}
 use Rattle.bound_search.proofs.Meets.{bound_is, bound_none}
@@ -21,13 +21,13 @@ use Rattle.bound_one.proofs.Exactly.{own_small}
 use Rattle.bound_all.specs.Asked.{own_then_all, bound_fault, all_answer}
 
 module _ (t : Table) (k : ℕ) where
-  fault_is : (f : Found) → bound_of t k ≡ f → found_number f ≡ 0 → (r : ℕ) × IsBound t k r
-  fault_is (Found.At r) e z = (r, (bound_is t k r).0 e)
-  fault_is Found.Nothing e z = absurd (omega (arith, z))
+  fault_is : (f : Option ℕ) → bound_of t k ≡ f → found_number f ≡ 0 → (r : ℕ) × IsBound t k r
+  fault_is (Some r) e z = (r, (bound_is t k r).0 e)
+  fault_is None e z = absurd (omega (arith, z))
 
-  fault_none : (f : Found) → bound_of t k ≡ f → found_number f ≡ 13 → NoBound t k
-  fault_none (Found.At r) e z = absurd (omega (arith, z))
-  fault_none Found.Nothing e z = (bound_none t k).0 e
+  fault_none : (f : Option ℕ) → bound_of t k ≡ f → found_number f ≡ 13 → NoBound t k
+  fault_none (Some r) e z = absurd (omega (arith, z))
+  fault_none None e z = (bound_none t k).0 e
 
   -- a position is at fault exactly where it has no bound
   pub faultless : (bound_fault t k ≡ 0) ↔ ((r : ℕ) × IsBound t k r)
@@ -40,9 +40,9 @@ module _ (t : Table) (k : ℕ) where
   fault_thirteen : (bound_fault t k ≡ 0 → ⊥) → bound_fault t k ≡ 13
   fault_thirteen = go (bound_of t k)
     where
-      go : (f : Found) → (found_number f ≡ 0 → ⊥) → found_number f ≡ 13
-      go (Found.At r) n = absurd (n refl)
-      go Found.Nothing n = refl
+      go : (f : Option ℕ) → (found_number f ≡ 0 → ⊥) → found_number f ≡ 13
+      go (Some r) n = absurd (n refl)
+      go None n = refl
 
 -- the first position that has no bound
 pub record FirstWithout (t : Table) (p : ℕ) : Type 0 where
@@ -62,7 +62,6 @@ module _ (t : Table) (room : ℕ) where
   without p f = record { below = f.below; none = (faulty t p).0 f.fault; before = λ i h. (faultless t i).0 (f.none i h) }
 
   pub all_case : All t room (all_answer t room)
-  unfolding all_answer
   all_case = go (judged t) (leb t.count room) (first_fault (bound_fault t) t.count) refl refl refl
     where
       go : (a : Answer) (b : Bool) (f : Answer) → judged t ≡ a → leb t.count room ≡ b → first_fault (bound_fault t) t.count ≡ f
@@ -82,7 +81,6 @@ module _ (t : Table) (room : ℕ) where
       (record { below = f.below; fault = (faulty t p).1 f.none; some = λ z. omega (arith, z); none = λ i h. (faultless t i).1 (f.before i h) })
 
   all_only : (a : Answer) → All t room a → a ≡ all_answer t room
-  unfolding all_answer
   all_only (Answer.Refused n p) (own e) = rw e
   all_only _ (short e h) = rw (e, lt-leb t.count room h)
   all_only (Answer.Refused _ p) (none e h f) = rw (e, le-leb t.count room h, first_without p f)
@@ -93,7 +91,6 @@ module _ (t : Table) (room : ℕ) where
   all_single a b p q = single (all_only a p) (all_only b q)
 
   pub all_own : (n p : ℕ) → judged t ≡ Answer.Refused n p → all_answer t room ≡ Answer.Refused n p
-  unfolding all_answer
   all_own n p e = rw e
 
   pub all_14 : (number_of (all_answer t room) ≡ 14) ↔ ((judged t ≡ Answer.Accepted) × (room < t.count))

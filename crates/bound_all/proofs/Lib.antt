@@ -3,3 +3,4 @@ pub mod Cells
 pub mod Exactly
 pub mod Worked
 pub mod Computing
+pub mod Copied

@@ -4,10 +4,10 @@ use mathlib.Core.Path.{◌≡◌, refl}
 use mathlib.Core.List.{List, [], ◌∷◌}
 use lib.ListN.{replicate}
 use Rattle.table_rules.specs.declared.Table.{Table}
-use Rattle.table_rules.specs.declared.Answer.{Answer}
-use Rattle.table_rules.specs.declared.Answer.TheVariants.{Accepted, Refused}
+use Rattle.table_rules.specs.Answers.{Answer}
+use Rattle.table_rules.specs.Answers.{Accepted, Refused}
 use Rattle.table_rules.specs.Rules.{no_task}
-use Rattle.bound_one.specs.declared.Bound.{Bound}
+use Rattle.bound_one.specs.Bound.{Bound}
 use Rattle.bound_one.specs.Asked.{one_answer}
 use Rattle.bound_all.specs.Asked.{all_answer, all_cells}
 use Rattle.bound_all.proofs.Computing.{bounds_compute}

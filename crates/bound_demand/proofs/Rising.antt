@@ -8,12 +8,12 @@ use lib.ListN.{get_or}
 use Rattle.laws.proofs.Numbers.{ceiling_mono}
 use Rattle.laws.proofs.Sums.{total_mono}
 use Rattle.table_rules.specs.declared.Table.{Table}
-use Rattle.table_rules.specs.declared.Answer.TheVariants.{Accepted}
+use Rattle.table_rules.specs.Answers.{Accepted}
 use Rattle.table_rules.specs.Judging.{judged}
 use Rattle.bound_demand.specs.declared.Load.{Load}
 use Rattle.bound_demand.specs.Above.{task_at, is_above}
 use Rattle.bound_demand.specs.Demand.{cost_of, spacing_of, part_of, part_at, demand}
-use Rattle.bound_demand.specs.Load.{part_in, load_demand, Ready}
+use Rattle.bound_demand.specs.Load.{none_asked, part_in, load_demand, Ready}
 use Rattle.bound_demand.proofs.Obeyed.{spacing_some}
 
 part_mono : (c s a b : ℕ) → 1 ≤ s → a ≤ b → part_of c s a ≤ part_of c s b
@@ -23,8 +23,8 @@ pub load_mono : (l : Load) → Ready l → (a b : ℕ) → a ≤ b → load_dema
 unfolding load_demand
 load_mono l y a b p =
     add-le-add (le_refl l.own)
-    (total_mono (part_in l.costs l.spacings a) (part_in l.costs l.spacings b) l.count
-    (λ i h. part_mono (get_or l.costs i 0) (get_or l.spacings i 0) a b (y.spaced i h) p))
+    (total_mono (part_in l.above a) (part_in l.above b) l.count
+    (λ i h. part_mono (get_or l.above i none_asked).cost (get_or l.above i none_asked).spacing a b (y.spaced i h) p))
 
 pub load_own : (l : Load) (r : ℕ) → l.own ≤ load_demand l r
 unfolding load_demand

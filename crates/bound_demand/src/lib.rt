@@ -5,11 +5,17 @@ pub mod above;
 
 use table_rules::PLACES;
 
-// All that the search goes by: the task's own cost, and a cost and a spacing for each task above it. Two rows, so that each round can be lent both.
-#[derive(Clone, Copy)]
+// What a task above asks for: its cost, once in each spacing.
+#[derive(Clone, Copy, Debug, PartialEq, Eq)]
+pub struct Asked {
+    pub cost: u32,
+    pub spacing: u32,
+}
+
+// All that the search goes by: the task's own cost, and what each of the first `count` tasks above it asks for.
+#[derive(Clone, Copy, Debug, PartialEq, Eq)]
 pub struct Load {
     pub own: u32,
     pub count: usize,
-    pub costs: [u32; PLACES],
-    pub spacings: [u32; PLACES],
+    pub above: [Asked; PLACES],
 }

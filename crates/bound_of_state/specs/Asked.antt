@@ -2,13 +2,13 @@
 use Rattle.std.specs.Prelude.{ℕ, cond, List, replicate}
 use Rattle.laws.specs.Stores.{filled}
 use Rattle.table_rules.specs.declared.Table.{Table}
-use Rattle.table_rules.specs.declared.Answer.{Answer}
+use Rattle.table_rules.specs.Answers.{Answer}
 use Rattle.table_rules.specs.Limits.{place_count}
 use Rattle.table_rules.specs.Rules.{no_task}
 use Rattle.state_rules.specs.declared.State.{State}
 use Rattle.state_rules.specs.State.{record_at}
 use Rattle.state_rules.specs.Sound.{state_holds}
-use Rattle.bound_one.specs.declared.Bound.{Bound}
+use Rattle.bound_one.specs.Bound.{Bound}
 use Rattle.bound_one.specs.Asked.{one_answer}
 use Rattle.bound_all.specs.Asked.{all_answer, all_cells}
 

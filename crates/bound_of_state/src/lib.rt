@@ -3,61 +3,52 @@
 
 ghost use Rattle.std.specs.Prelude.{◌≡◌, ◌≤◌, length};
 ghost use Rattle.table_rules.specs.Limits.{place_count};
+ghost use Rattle.table_rules.specs.Answers.{as_answer};
+ghost use Rattle.bound_one.specs.Bound.{as_bound};
 ghost use Rattle.bound_of_state.specs.Asked.{table_in, one_of_state, all_of_state, cells_of_state};
 
-use bound_one::Bound;
+use refusals::Refusal;
 use state_rules::State;
 use state_rules::sound::is_sound;
-use table_rules::{Answer, PLACES, Table, Task};
+use table_rules::{PLACES, Refused, Table, Task};
+
+const NOT_SOUND: Refused = Refused {
+    refusal: Refusal::NotSound,
+    position: 0,
+};
 
 // The table that the state's tasks make, with zeros past the last one.
+#[tactic(auto, unfolding(laws::specs::Stores::filled))]
 fn table_of(state: State) -> Table
     requires { state.count ≤ place_count }
     ensures { result ≡ table_in state }
 {
-    let none = Task {
-        c: 0,
-        d: 0,
-        t: 0,
-        m: 0,
-        k: 0,
-    };
-    let tasks = [none; PLACES];
-    let count = state.count;
-    let mut table = Table {
-        count: count,
-        tasks: tasks,
-    };
-    let mut i: usize = 0;
-    while i < count {
-        let one = state.records[i];
-        let task = one.task;
-        table.tasks[i] = task;
-        i += 1;
+    let mut tasks = [Task::default(); PLACES];
+    for (i, record) in state.records[..state.count].iter().enumerate() {
+        tasks[i] = record.task;
     }
-    table
-}
-
-pub fn bound(state: State, k: usize) -> Bound
-    ensures { result ≡ one_of_state state k }
-{
-    if is_sound(state) {
-        return bound_one::of_table::bound(table_of(state), k);
-    }
-    Bound::Refused {
-        number: 15,
-        position: 0,
+    Table {
+        count: state.count,
+        tasks,
     }
 }
 
-pub fn all(state: State, out: &mut [u32]) -> Answer
-    ensures { (result ≡ all_of_state state (length out.old)) × (out.new ≡ cells_of_state state out.old) }
+#[tactic(auto, using(crate::proofs::Accepted::few), unfolding(crate::specs::Asked::one_of_state))]
+pub fn bound(state: State, k: usize) -> Result<u32, Refused>
+    ensures { as_bound result ≡ one_of_state state k }
 {
-    if is_sound(state) {
-        return bound_all::of_table::all(table_of(state), out);
+    if !is_sound(state) {
+        return Err(NOT_SOUND);
     }
-    Answer::Refused {
-        number: 15,
-        position: 0,
+    bound_one::of_table::bound(table_of(state), k)
+}
+
+#[tactic(auto, using(crate::proofs::Accepted::few), unfolding(crate::specs::Asked::all_of_state, crate::specs::Asked::cells_of_state))]
+pub fn all(state: State, out: &mut [u32]) -> Result<(), Refused>
+    ensures { (as_answer result ≡ all_of_state state (length out.old)) × (out.new ≡ cells_of_state state out.old) }
+{
+    if !is_sound(state) {
+        return Err(NOT_SOUND);
     }
+    bound_all::of_table::all(table_of(state), out)
 }

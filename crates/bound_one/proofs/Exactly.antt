@@ -8,17 +8,17 @@ use native.Mathlib.Decide.{ℕ_discrete}
 use native.Mathlib.Omega.{arith}
 use borrow.Author.Tests.{lt-ltb, le-ltb, ltb-true, ltb-false}
 use lib.Dec.{ltb}
+use Rattle.std.specs.Prelude.{Option, Some, None}
 use Rattle.laws.proofs.Tests.{impossible, single}
 use Rattle.table_rules.specs.declared.Table.{Table}
-use Rattle.table_rules.specs.declared.Answer.{Answer}
+use Rattle.table_rules.specs.Answers.{Answer}
 use Rattle.table_rules.specs.Judging.{judged}
 use Rattle.table_rules.proofs.Exactly.{judged_at}
 use Rattle.table_rules.proofs.Ruling.{fault_among}
 use Rattle.bound_demand.specs.Above.{task_at}
-use Rattle.bound_search.specs.declared.Found.{Found}
 use Rattle.bound_search.specs.Bound.{IsBound, NoBound, bound_of}
 use Rattle.bound_search.proofs.Meets.{bound_is, bound_none}
-use Rattle.bound_one.specs.declared.Bound.{Bound}
+use Rattle.bound_one.specs.Bound.{Bound}
 use Rattle.bound_one.specs.Answers.{bound_number, bound_position, bound_value}
 use Rattle.bound_one.specs.Asked.{or_thirteen, own_then_one, one_answer}
 
@@ -45,12 +45,12 @@ module _ (t : Table) where
     unfolding one_answer
     one_case = go (judged t) (ltb k t.count) (bound_of t k) refl refl refl
       where
-        go : (a : Answer) (b : Bool) (f : Found) → judged t ≡ a → ltb k t.count ≡ b → bound_of t k ≡ f
+        go : (a : Answer) (b : Bool) (f : Option ℕ) → judged t ≡ a → ltb k t.count ≡ b → bound_of t k ≡ f
             → One t k (own_then_one a (cond b (or_thirteen f k) (Bound.Refused 10 k)))
         go (Answer.Refused n p) b f e q g = own e
         go Answer.Accepted false f e q g = past e (ltb-false k t.count q)
-        go Answer.Accepted true Found.Nothing e q g = none e (ltb-true k t.count q) ((bound_none t k).0 g)
-        go Answer.Accepted true (Found.At r) e q g = found e (ltb-true k t.count q) ((bound_is t k r).0 g)
+        go Answer.Accepted true None e q g = none e (ltb-true k t.count q) ((bound_none t k).0 g)
+        go Answer.Accepted true (Some r) e q g = found e (ltb-true k t.count q) ((bound_is t k r).0 g)
 
     -- an answer in one of these ways is the answer, so there is a single one
     one_only : (a : Bound) → One t k a → a ≡ one_answer t k

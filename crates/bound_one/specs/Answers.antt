@@ -1,7 +1,7 @@
 -- The rules' number, position and value for each case of the answer about one bound.
 use Rattle.std.specs.Prelude.{ℕ}
-use Rattle.bound_one.specs.declared.Bound.{Bound}
-use Rattle.bound_one.specs.declared.Bound.TheVariants.{At, Refused}
+use Rattle.bound_one.specs.Bound.{Bound}
+use Rattle.bound_one.specs.Bound.{At, Refused}
 
 -- 0 where nothing is refused: no refusal has that number
 abbrev pub bound_number : Bound → ℕ

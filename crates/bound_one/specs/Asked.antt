@@ -1,17 +1,16 @@
 -- Rules, "Order of refusals", where one task's bound is asked of a table: the table's own refusal, then 10, then 13.
-use Rattle.std.specs.Prelude.{ℕ, cond, ltb}
+use Rattle.std.specs.Prelude.{ℕ, cond, ltb, Option, Some, None}
 use Rattle.table_rules.specs.declared.Table.{Table}
-use Rattle.table_rules.specs.declared.Answer.{Answer}
+use Rattle.table_rules.specs.Answers.{Answer}
 use Rattle.table_rules.specs.Judging.{judged}
-use Rattle.bound_search.specs.declared.Found.{Found}
 use Rattle.bound_search.specs.Answers.{found_number}
 use Rattle.bound_search.specs.Bound.{bound_of}
-use Rattle.bound_one.specs.declared.Bound.{Bound}
+use Rattle.bound_one.specs.Bound.{Bound}
 
 -- the bound, or 13 at the position that has none
-abbrev pub or_thirteen : Found → ℕ → Bound
-or_thirteen (Found.At r) k = Bound.At r
-or_thirteen Found.Nothing k = Bound.Refused (found_number Found.Nothing) k
+abbrev pub or_thirteen : Option ℕ → ℕ → Bound
+or_thirteen (Some r) k = Bound.At r
+or_thirteen None k = Bound.Refused (found_number None) k
 
 -- the table's own refusal comes first
 abbrev pub own_then_one : Answer → Bound → Bound

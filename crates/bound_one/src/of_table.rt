@@ -1,34 +1,26 @@
 // One task's bound, asked of a table: the table's own refusal, then 10, then 13.
 ghost use Rattle.std.specs.Prelude.{◌≡◌};
+ghost use Rattle.bound_one.specs.Bound.{as_bound};
 ghost use Rattle.bound_one.specs.Asked.{one_answer};
 
-use super::Bound;
-use bound_search::Found;
 use bound_search::search::bound_in;
+use refusals::Refusal;
 use table_rules::rules::judge;
-use table_rules::{Answer, Table};
+use table_rules::{Refused, Table};
 
-pub fn bound(table: Table, k: usize) -> Bound
-    ensures { result ≡ one_answer table k }
+#[tactic(auto, unfolding(crate::specs::Asked::one_answer))]
+pub fn bound(table: Table, k: usize) -> Result<u32, Refused>
+    ensures { as_bound result ≡ one_answer table k }
 {
-    let answer = judge(table);
-    if let Answer::Refused { number, position } = answer {
-        return Bound::Refused {
-            number: number,
-            position: position,
-        };
-    }
+    judge(table)?;
     if table.count <= k {
-        return Bound::Refused {
-            number: 10,
+        return Err(Refused {
+            refusal: Refusal::NoTask,
             position: k,
-        };
+        });
     }
-    match bound_in(table, k) {
-        Found::At(r) => Bound::At(r),
-        Found::Nothing => Bound::Refused {
-            number: 13,
-            position: k,
-        },
-    }
+    bound_in(table, k).ok_or(Refused {
+        refusal: Refusal::NoBound,
+        position: k,
+    })
 }

@@ -8,7 +8,7 @@ use native.Mathlib.Omega.{arith}
 use borrow.Author.Tests.{le-leb, lt-leb}
 use lib.Dec.{leb}
 use Rattle.laws.proofs.Tests.{impossible}
-use Rattle.bound_search.specs.declared.Found.TheVariants.{At, Nothing}
+use Rattle.std.specs.Prelude.{Some, None}
 use Rattle.bound_search.specs.Fits.{Smallest, NoneFits, or_next, first_fit}
 
 -- the smallest is one number
@@ -22,19 +22,19 @@ smallest_equal f rise some n r s =
     le_antisymm s.fits (s.least (f r) (some r) (le_trans s.fits s.within) (rise (f r) r s.fits))
 
 module _ (f : ℕ → ℕ) where
-  pub fit_none : (n : ℕ) → NoneFits f n → first_fit f n ≡ Nothing
+  pub fit_none : (n : ℕ) → NoneFits f n → first_fit f n ≡ None
   unfolding first_fit
   fit_none zero h = refl
   fit_none (suc n) h =
       let k = h (suc n) (omega arith) (le_refl (suc n)) in
       rw (fit_none n (λ x p q. h x p (omega arith)), lt-leb (f (suc n)) (suc n) (omega arith))
 
-  pub fit_at : (n r : ℕ) → Smallest f n r → first_fit f n ≡ At r
+  pub fit_at : (n r : ℕ) → Smallest f n r → first_fit f n ≡ Some r
   unfolding first_fit
   fit_at zero r s = absurd (omega (arith, s.some, s.within))
   fit_at (suc n) r s = go (ℕ_discrete r (suc n)) (fit_at n r)
     where
-      go : Dec (r ≡ suc n) → (Smallest f n r → first_fit f n ≡ At r) → or_next (first_fit f n) (leb (f (suc n)) (suc n)) (suc n) ≡ At r
+      go : Dec (r ≡ suc n) → (Smallest f n r → first_fit f n ≡ Some r) → or_next (first_fit f n) (leb (f (suc n)) (suc n)) (suc n) ≡ Some r
       go (yes e) k =
           let h : f (suc n) ≤ suc n = rw e at s.fits in
           rw (fit_none n (λ x p q d. omega (arith, s.least x p (omega arith) d)), le-leb (f (suc n)) (suc n) h, e)
@@ -64,7 +64,7 @@ module _ (f : ℕ → ℕ) where
           inr (λ x p q e. let z : x ≡ suc n = omega (arith, beyond n x h p e) in omega (arith, rw z at e))
       go (inr h) (no d) = inl (suc n, record { some = omega arith; within = le_refl (suc n); fits = omega arith; least = λ x p q e. beyond n x h p e })
 
-  pub fit_at_then : (n r : ℕ) → first_fit f n ≡ At r → Smallest f n r
+  pub fit_at_then : (n r : ℕ) → first_fit f n ≡ Some r → Smallest f n r
   fit_at_then n r e = go (look n)
     where
       go : ((r : ℕ) × Smallest f n r) ⊎ NoneFits f n → Smallest f n r
@@ -74,7 +74,7 @@ module _ (f : ℕ → ℕ) where
           rw z at s.1
       go (inr h) = let q = fit_none n h in impossible cc
 
-  pub fit_none_then : (n : ℕ) → first_fit f n ≡ Nothing → NoneFits f n
+  pub fit_none_then : (n : ℕ) → first_fit f n ≡ None → NoneFits f n
   fit_none_then n e = go (look n)
     where
       go : ((r : ℕ) × Smallest f n r) ⊎ NoneFits f n → NoneFits f n

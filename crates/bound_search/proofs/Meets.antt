@@ -6,9 +6,9 @@ use mathlib.Core.Logic.{◌↔◌}
 use native.Mathlib.Nat.{le_trans}
 use Rattle.laws.specs.Sums.{total}
 use Rattle.table_rules.specs.declared.Table.{Table}
-use Rattle.table_rules.specs.declared.Answer.TheVariants.{Accepted}
+use Rattle.table_rules.specs.Answers.{Accepted}
 use Rattle.table_rules.specs.Judging.{judged}
-use Rattle.bound_search.specs.declared.Found.TheVariants.{At, Nothing}
+use Rattle.std.specs.Prelude.{Some, None}
 use Rattle.bound_demand.specs.Above.{task_at}
 use Rattle.bound_demand.specs.Demand.{cost_of, part_at, demand}
 use Rattle.bound_search.specs.Bound.{IsBound, NoBound, bound_of}
@@ -18,10 +18,10 @@ use Rattle.bound_demand.proofs.Rising.{demand_mono, demand_own}
 
 -- the bound that is found is the smallest R, and nothing is found exactly where there is none
 module _ (t : Table) (k : ℕ) where
-  pub bound_is : (r : ℕ) → (bound_of t k ≡ At r) ↔ IsBound t k r
+  pub bound_is : (r : ℕ) → (bound_of t k ≡ Some r) ↔ IsBound t k r
   bound_is r = (fit_at_then (demand t k) (task_at t k).d r, fit_at (demand t k) (task_at t k).d r)
 
-  pub bound_none : (bound_of t k ≡ Nothing) ↔ NoBound t k
+  pub bound_none : (bound_of t k ≡ None) ↔ NoBound t k
   bound_none = (fit_none_then (demand t k) (task_at t k).d, fit_none (demand t k) (task_at t k).d)
 
 module _ (t : Table) (k r : ℕ) (b : IsBound t k r) where

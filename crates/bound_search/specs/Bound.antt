@@ -1,7 +1,6 @@
 -- Rules, "Response bound": the bound of task k is the smallest R from 1 to D of k that is at least the demand at R.
-use Rattle.std.specs.Prelude.{ℕ}
+use Rattle.std.specs.Prelude.{ℕ, Option}
 use Rattle.table_rules.specs.declared.Table.{Table}
-use Rattle.bound_search.specs.declared.Found.{Found}
 use Rattle.bound_demand.specs.Above.{task_at}
 use Rattle.bound_demand.specs.Demand.{demand}
 use Rattle.bound_search.specs.Fits.{Smallest, NoneFits, first_fit}
@@ -13,5 +12,5 @@ abbrev pub NoBound : Table → ℕ → Type 0
 NoBound t k = NoneFits (demand t k) (task_at t k).d
 
 -- the same, found
-abbrev pub bound_of : Table → ℕ → Found
+abbrev pub bound_of : Table → ℕ → Option ℕ
 bound_of t k = first_fit (demand t k) (task_at t k).d

@@ -1,7 +1,5 @@
 -- The smallest number from 1 to n that is not exceeded by what f asks for there.
-use Rattle.std.specs.Prelude.{ℕ, zero, suc, ◌≤◌, Bool, true, false, leb}
-use Rattle.bound_search.specs.declared.Found.{Found}
-use Rattle.bound_search.specs.declared.Found.TheVariants.{At, Nothing}
+use Rattle.std.specs.Prelude.{ℕ, zero, suc, ◌≤◌, Bool, true, false, leb, Option, Some, None}
 
 pub record Smallest (f : ℕ → ℕ) (n r : ℕ) : Type 0 where
   pub some : 1 ≤ r
@@ -13,12 +11,12 @@ abbrev pub NoneFits : (ℕ → ℕ) → ℕ → Type 0
 NoneFits f n = (x : ℕ) → 1 ≤ x → x ≤ n → f x ≤ x → ⊥
 
 -- a fit stands; after none, x is taken where it fits
-abbrev pub or_next : Found → Bool → ℕ → Found
-or_next (At r) fits x = At r
-or_next Nothing true x = At x
-or_next Nothing false x = Nothing
+abbrev pub or_next : Option ℕ → Bool → ℕ → Option ℕ
+or_next (Some r) fits x = Some r
+or_next None true x = Some x
+or_next None false x = None
 
 -- the first fit among 1 to n
-unfoldable pub first_fit : (ℕ → ℕ) → ℕ → Found
-first_fit f zero = Nothing
+unfoldable pub first_fit : (ℕ → ℕ) → ℕ → Option ℕ
+first_fit f zero = None
 first_fit f (suc n) = or_next (first_fit f n) (leb (f (suc n)) (suc n)) (suc n)

@@ -2,10 +2,3 @@
 #![tactic(auto)]
 
 pub mod search;
-
-// What the search yields.
-#[derive(Clone, Copy)]
-pub enum Found {
-    At(u32),
-    Nothing,
-}

@@ -9,11 +9,10 @@ pub fn read_full(mut stdin: Stdin, input: &mut [u8]) -> io::Result<usize>
 {
     let mut done: usize = 0;
     while done < input.len() {
-        let more = stdin.read(&mut input[done..])?;
-        if more == 0 {
-            break;
+        match stdin.read(&mut input[done..])? {
+            0 => break,
+            more => done += more,
         }
-        done += more;
     }
     Ok(done)
 }

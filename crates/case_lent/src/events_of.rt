@@ -2,21 +2,17 @@
 use crate::dice::{next, pick};
 use event_reading::{COMPLETION, Event, RELEASE, TICK};
 use state_rules::State;
-use table_rules::{Table, Task};
+use table_rules::{PLACES, Table, Task};
 
 fn task(x: u64) -> Task {
     let x1 = next(x);
     let x2 = next(x1);
     let x3 = next(x2);
-    let x4 = next(x3);
     let c = 1 + pick(x, 3);
     let d = c + pick(x1, 5);
     let t = d + pick(x2, 5);
     let k = 1 + pick(x3, 8);
-    let mut m: u64 = 0;
-    if 1 < k {
-        m = 1 + pick(x4, k - 1);
-    }
+    let m = if 1 < k { 1 + pick(next(x3), k - 1) } else { 0 };
     Task {
         c: c as u32,
         d: d as u32,
@@ -28,28 +24,13 @@ fn task(x: u64) -> Task {
 
 pub fn table(seed: u64) -> Table {
     let count = (1 + seed % 16) as usize;
-    let none = Task {
-        c: 0,
-        d: 0,
-        t: 0,
-        m: 0,
-        k: 0,
-    };
-    let mut tasks = [none; 16];
+    let mut tasks = [Task::default(); PLACES];
     let mut x = next(seed % 1000 + 7);
-    let mut i: usize = 0;
-    while i < 16 {
-        if i < count {
-            let one = task(x);
-            tasks[i] = one;
-        }
+    for one in tasks[..count].iter_mut() {
+        *one = task(x);
         x = next(x);
-        i += 1;
     }
-    Table {
-        count: count,
-        tasks: tasks,
-    }
+    Table { count, tasks }
 }
 
 // The number of a task's last job, or near it.
@@ -57,26 +38,19 @@ fn job_of(state: State, task: u64, x: u64) -> u64 {
     if 15 < task {
         return 1;
     }
-    let at = task as usize;
-    let last = state.records[at].released;
     if pick(x, 12) == 0 {
         return pick(x, 5);
     }
-    last
+    state.records[task as usize].released
 }
 
 fn time_of(clock: u64, x: u64) -> u64 {
-    let by = pick(x, 400);
-    if by == 0 {
-        return 1000000000001;
+    match pick(x, 400) {
+        0 => 1000000000001,
+        by if by < 12 => clock / 2,
+        _ if 1000000000000 < clock => clock,
+        by => clock + by % 4,
     }
-    if by < 12 {
-        return clock / 2;
-    }
-    if 1000000000000 < clock {
-        return clock;
-    }
-    clock + by % 4
 }
 
 // Mostly sound kinds; some that break 7, 8 or 10.
@@ -84,38 +58,19 @@ pub fn event(state: State, x: u64) -> Event {
     let x1 = next(x);
     let x2 = next(x1);
     let x3 = next(x2);
-    let kind = pick(x, 22);
-    let task = pick(x1, 17) % (1 + state.count as u64 % 17);
+    let at = pick(x1, 17) % (1 + state.count as u64 % 17);
+    let task = (at % 256) as u8;
     let time = time_of(state.clock, x2);
-    if kind < 4 {
-        return Event {
-            kind: TICK,
-            task: 0,
-            job: 0,
-            time: time,
-        };
-    }
-    if kind < 12 {
-        return Event {
-            kind: RELEASE,
-            task: (task % 256) as u8,
-            job: 0,
-            time: time,
-        };
-    }
-    if kind < 20 {
-        let job = job_of(state, task, x3);
-        return Event {
-            kind: COMPLETION,
-            task: (task % 256) as u8,
-            job: job,
-            time: time,
-        };
-    }
+    let (kind, task, job) = match pick(x, 22) {
+        0..4 => (TICK, 0, 0),
+        4..12 => (RELEASE, task, 0),
+        12..20 => (COMPLETION, task, job_of(state, at, x3)),
+        _ => (pick(x3, 4) as u8, task, pick(x3, 3)),
+    };
     Event {
-        kind: pick(x3, 4) as u8,
-        task: (task % 256) as u8,
-        job: pick(x3, 3),
-        time: time,
+        kind,
+        task,
+        job,
+        time,
     }
 }

@@ -3,12 +3,13 @@ ghost use Rattle.std.specs.Prelude.{◌<◌};
 
 use crate::dice::{next, pick};
 use crate::events_of::{event, table};
-use crate::same::both;
 use apply_engine::apply::apply;
 use apply_events::Answer;
 use lent_engine::apply::apply_of;
 use state_rules::State;
 use state_rules::fresh::start;
+use table_rules::PLACES;
+use task_steps::opening::no_record;
 
 // seen: how often each refusal came, at its number; 16 for a chosen job and 17 for none.
 #[derive(Clone, Copy)]
@@ -23,21 +24,13 @@ pub struct Walk {
 // The state as it stands, or one with a count, a clock or a record outside the rules.
 fn spoilt(state: State, x: u64) -> State {
     let mut other = state;
-    let how = pick(x, 64);
-    if how == 0 {
-        other.count = 17;
-    }
-    if how == 1 {
-        other.count = 0;
-    }
-    if how == 2 {
-        other.clock = 1000000000001;
-    }
-    if how == 3 {
-        other.records[0].marks = 18446744073709551615;
-    }
-    if how == 4 {
-        other.records[0].met = 18446744073709551615;
+    match pick(x, 64) {
+        0 => other.count = 17,
+        1 => other.count = 0,
+        2 => other.clock = 1000000000001,
+        3 => other.records[0].marks = u64::MAX,
+        4 => other.records[0].met = u64::MAX,
+        _ => {}
     }
     other
 }
@@ -46,78 +39,53 @@ fn slot(said: Answer) -> usize
     ensures { result < 18 }
 {
     match said {
-        Answer::Run {
-            position: _,
-            class: _,
-        } => 16,
-        Answer::Idle => 17,
-        Answer::Refused(n) => (n % 16) as usize,
+        Ok(Some(_)) => 16,
+        Ok(None) => 17,
+        Err(refusal) => (refusal.number() % 16) as usize,
     }
 }
 
-fn more(n: u64) -> u64 {
-    if n < 1000000 { n + 1 } else { n }
-}
-
-fn step(walk: Walk) -> Walk {
-    let x = next(walk.x);
-    let state = walk.state;
-    let happens = event(state, x);
-    let asked = spoilt(state, next(next(x)));
-    let value = apply(asked, happens);
-    let place = apply_of(asked, happens);
-    let same = both(value, place);
-    let said = place.answer;
-    let at = slot(said);
-    let mut seen = walk.seen;
-    let count = more(seen[at]);
-    seen[at] = count;
-    let kept = apply(state, happens);
-    let after = kept.state;
-    Walk {
-        state: after,
-        x: x,
-        same: same,
-        events: more(walk.events),
-        seen: seen,
+impl Walk {
+    // A fresh state of the next table; every table of the dice is accepted.
+    fn begin(&mut self, seed: u64) {
+        if let Ok(state) = start(table(seed)) {
+            self.state = state;
+        }
+        self.x = seed;
     }
-}
 
-// A fresh state of the next table.
-fn begun(walk: Walk, seed: u64) -> Walk {
-    let started = start(table(seed));
-    let state = started.state;
-    let seen = walk.seen;
-    Walk {
-        state: state,
-        x: seed,
-        same: walk.same,
-        events: walk.events,
-        seen: seen,
+    fn step(&mut self) {
+        self.x = next(self.x);
+        let happens = event(self.state, self.x);
+        let asked = spoilt(self.state, next(next(self.x)));
+        let place = apply_of(asked, happens);
+        self.same = apply(asked, happens) == place;
+        let at = slot(place.answer);
+        self.seen[at] = self.seen[at].saturating_add(1);
+        self.state = apply(self.state, happens).state;
+        self.events = self.events.saturating_add(1);
     }
 }
 
 // All events, or those up to the first difference.
 pub fn all() -> Walk {
-    let started = start(table(0));
-    let state = started.state;
-    let seen = [0u64; 18];
     let mut walk = Walk {
-        state: state,
+        state: State {
+            count: 0,
+            clock: 0,
+            records: [no_record(); PLACES],
+        },
         x: 0,
         same: true,
         events: 0,
-        seen: seen,
+        seen: [0; 18],
     };
-    let mut n: u64 = 0;
-    while n < 100000 {
+    for n in 0..100000 {
         if n % 2000 == 0 {
-            walk = begun(walk, n / 2000);
+            walk.begin(n / 2000);
         }
-        walk = step(walk);
-        if walk.same {
-            n += 1;
-        } else {
+        walk.step();
+        if !walk.same {
             return walk;
         }
     }

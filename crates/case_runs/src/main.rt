@@ -4,18 +4,13 @@
 mod runs;
 
 use case_frames::input::read_full;
+use case_frames::parts;
 use std::io;
 
 fn each(rt: &impl Print, all: &[u8]) -> io::Result<()> {
-    let mut at: usize = 0;
-    while at < all.len() {
-        let middle = case_frames::end(all, at);
-        runs::one(
-            rt,
-            case_frames::part(all, at),
-            case_frames::part(all, middle),
-        )?;
-        at = case_frames::end(all, middle);
+    let mut parts = parts(all);
+    while let Some(table) = parts.next() {
+        runs::one(rt, table, parts.next().unwrap_or(&[]))?;
     }
     Ok(())
 }

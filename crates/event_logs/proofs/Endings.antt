@@ -9,13 +9,13 @@ use lib.Seq.{drop-drop}
 use Rattle.laws.proofs.Answers.{exactly, one_answer}
 use Rattle.laws.proofs.Tests.{impossible}
 use Rattle.event_reading.specs.declared.Event.{Event}
-use Rattle.event_reading.specs.declared.Reading.{Reading}
-use Rattle.event_reading.specs.declared.Reading.TheVariants as R
+use Rattle.event_reading.specs.Reading.{Reading}
+use Rattle.event_reading.specs.Reading as R
 use Rattle.event_reading.specs.Record.{event_of, read_record}
 use Rattle.event_reading.specs.Answer.{read_said}
 use Rattle.event_reading.proofs.ReadOne.{read_end}
-use Rattle.event_logs.specs.declared.Ending.{Ending}
-use Rattle.event_logs.specs.declared.Ending.TheVariants as E
+use Rattle.event_logs.specs.Stops.{Ending}
+use Rattle.event_logs.specs.Stops as E
 use Rattle.event_logs.specs.Log.{readable, read_at, rest_of}
 use Rattle.event_logs.specs.Ending.{FirstRead, Ends, whole, stopped, ended_by, ending_at, ending_from, ending_of, end_said}
 use Rattle.event_logs.proofs.Records.{Goes, Stops, front, goes_of}

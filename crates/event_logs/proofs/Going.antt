@@ -6,7 +6,7 @@ use native.Mathlib.Omega.{arith}
 use lib.ListN.{length, drop, length-drop}
 use lib.Seq.{drop-drop}
 use Rattle.event_reading.specs.declared.Event.{Event}
-use Rattle.event_reading.specs.declared.Reading.TheVariants as R
+use Rattle.event_reading.specs.Reading as R
 use Rattle.event_reading.specs.Record.{read_record}
 use Rattle.event_logs.specs.Log.{events_of}
 use Rattle.event_logs.specs.Ending.{ended_by, ending_from}

@@ -5,3 +5,4 @@ pub mod Rests
 pub mod Endings
 pub mod Going
 pub mod Computing
+pub mod Views

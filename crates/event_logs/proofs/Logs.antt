@@ -9,7 +9,7 @@ use lib.ListN.{get_or, drop, length}
 use lib.Seq.{drop-drop}
 use Rattle.laws.proofs.Tests.{impossible}
 use Rattle.event_reading.specs.declared.Event.{Event}
-use Rattle.event_reading.specs.declared.Reading.TheVariants as R
+use Rattle.event_reading.specs.Reading as R
 use Rattle.event_reading.specs.Event.{fault_of}
 use Rattle.event_reading.specs.Record.{event_of, read_record}
 use Rattle.event_logs.specs.Log.{readable, read_at, rest_of, events_in, events_of}

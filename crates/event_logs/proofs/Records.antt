@@ -1,5 +1,5 @@
 -- The records of a log from the front on: one law says what stands at the front, and each claim follows by induction on how many read.
-use Prim.Native.Nat.{ℕ, zero, suc, ◌+◌, ◌-◌, ◌*◌, ◌≤◌}
+use Prim.Native.Nat.{ℕ, zero, suc, ◌+◌, ◌*◌, ◌≤◌}
 use mathlib.Core.Path.{◌≡◌, refl, ap, ◌∙◌}
 use mathlib.Core.List.{List, [], ◌∷◌}
 use mathlib.Core.Logic.{◌⊎◌, inl, inr}
@@ -8,11 +8,11 @@ use lib.ListN.{length, drop, length-drop}
 use lib.Seq.{drop-drop}
 use Rattle.laws.proofs.Tests.{impossible}
 use Rattle.event_reading.specs.declared.Event.{Event}
-use Rattle.event_reading.specs.declared.Reading.{Reading}
-use Rattle.event_reading.specs.declared.Reading.TheVariants as R
+use Rattle.event_reading.specs.Reading.{Reading}
+use Rattle.event_reading.specs.Reading as R
 use Rattle.event_reading.specs.Event.{Ruled}
 use Rattle.event_reading.specs.Record.{Marked, event_of, read_record}
-use Rattle.event_logs.specs.Log.{more, readable_in, readable}
+use Rattle.event_logs.specs.Log.{more, readable_in, readable, rest_of}
 use Rattle.event_reading.proofs.ReadOne.{event-of}
 
 -- a bound that is large enough does not matter
@@ -83,26 +83,27 @@ readable-fits =
     by_records (λ s. 20 * readable s ≤ length s) (λ s t. omega (arith, t.none))
     (λ s g h. omega (arith, g.long, g.counts, rw length-drop at h))
 
--- the reader's place: within the log, with all before it read
-pub record Place (s : List ℕ) (at : ℕ) : Type 0 where
-  pub within : at ≤ length s
-  pub behind : 20 * readable s ≡ at + 20 * readable (drop at s)
+-- a record that reads is whole, and behind it stands the same rest
+pub record_there : (s : List ℕ) (e : Event) → read_record s ≡ R.Event e → 20 ≤ length s
+record_there s e q = (goes_of s e q).long
 
-pub place_none : (s : List ℕ) → Place s 0
-place_none s = record { within = omega arith; behind = omega arith }
+pub rest_behind : (s : List ℕ) (e : Event) → read_record s ≡ R.Event e → rest_of (drop 20 s) ≡ rest_of s
+rest_behind s e q =
+    let k = readable (drop 20 s) in
+    let n : 20 * readable s ≡ 20 + 20 * k = omega (arith, (goes_of s e q).counts) in
+    rw n (drop-drop (20 * k) 20 s)
 
--- a record that reads moves the place
-pub place_more : (s : List ℕ) (at : ℕ) (e : Event) → Place s at → read_record (drop at s) ≡ R.Event e → Place s (at + 20)
-place_more s at e w q =
-    let g = goes_of (drop at s) e q in
-    let l : 20 ≤ length s - at = rw (length-drop at s) at g.long in
-    let n : readable (drop at s) ≡ suc (readable (drop (at + 20) s)) = rw (drop-drop 20 at s) at g.counts in
-    record { within = omega (arith, w.within); behind = omega (arith, w.behind) }
+-- where none reads at the front, all is the rest
+module _ (s : List ℕ) where
+  rest_whole : ((e : Event) → read_record s ≡ R.Event e → ⊥) → s ≡ rest_of s
+  rest_whole n = go (front s)
+    where
+      go : Goes s ⊎ Stops s → s ≡ rest_of s
+      go (inl g) = absurd (n (event_of s) g.reads)
+      go (inr t) = rw t.none
 
--- a record that does not read is where it ends
-pub place_stop : (s : List ℕ) (at : ℕ) → Place s at → ((e : Event) → read_record (drop at s) ≡ R.Event e → ⊥) → drop at s ≡ drop (20 * readable s) s
-place_stop s at w n = go (front (drop at s))
-  where
-    go : Goes (drop at s) ⊎ Stops (drop at s) → drop at s ≡ drop (20 * readable s) s
-    go (inl g) = absurd (n (event_of (drop at s)) g.reads)
-    go (inr t) = let e : 20 * readable s ≡ at = omega (arith, w.behind, t.none) in rw e
+  pub rest_at_end : R.End ≡ read_record s → s ≡ rest_of s
+  rest_at_end q = rest_whole (λ e p. impossible cc)
+
+  pub rest_refused : (n : ℕ) → R.Refused n ≡ read_record s → s ≡ rest_of s
+  rest_refused n q = rest_whole (λ e p. impossible cc)

@@ -6,8 +6,8 @@ use mathlib.Core.Logic.{◌↔◌}
 use native.Mathlib.Omega.{arith}
 use lib.ListN.{length, length-drop}
 use Rattle.event_reading.specs.declared.Event.{Event}
-use Rattle.event_reading.specs.declared.Reading.{Reading}
-use Rattle.event_reading.specs.declared.Reading.TheVariants as R
+use Rattle.event_reading.specs.Reading.{Reading}
+use Rattle.event_reading.specs.Reading as R
 use Rattle.event_reading.specs.Record.{event_of, read_record, Reads, ended, short, unmarked, unknown, stray, whole}
 use Rattle.event_reading.specs.Answer.{read_said}
 use Rattle.event_logs.specs.Log.{readable, rest_of}

@@ -2,11 +2,11 @@
 use Rattle.std.specs.Prelude.{ℕ, ◌+◌, ◌*◌, ◌<◌, ◌≡◌, List, [], ◌∷◌, length, drop}
 use Rattle.laws.specs.Said.{Said}
 use Rattle.event_reading.specs.declared.Event.{Event}
-use Rattle.event_reading.specs.declared.Reading.{Reading}
-use Rattle.event_reading.specs.declared.Reading.TheVariants as R
+use Rattle.event_reading.specs.Reading.{Reading}
+use Rattle.event_reading.specs.Reading as R
 use Rattle.event_reading.specs.Record.{event_size, read_record}
-use Rattle.event_logs.specs.declared.Ending.{Ending}
-use Rattle.event_logs.specs.declared.Ending.TheVariants as E
+use Rattle.event_logs.specs.Stops.{Ending}
+use Rattle.event_logs.specs.Stops as E
 use Rattle.event_logs.specs.Log.{readable, read_at}
 
 -- the first n records of a log read

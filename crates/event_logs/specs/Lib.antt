@@ -1,3 +1,4 @@
 -- What the crate's contracts cite.
+pub mod Stops
 pub mod Log
 pub mod Ending

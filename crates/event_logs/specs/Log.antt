@@ -1,8 +1,8 @@
 -- A log is records one behind another. Reading goes from the front and ends at the first record that does not read.
 use Rattle.std.specs.Prelude.{ℕ, zero, suc, ◌*◌, List, [], ◌∷◌, length, drop}
 use Rattle.event_reading.specs.declared.Event.{Event}
-use Rattle.event_reading.specs.declared.Reading.{Reading}
-use Rattle.event_reading.specs.declared.Reading.TheVariants as R
+use Rattle.event_reading.specs.Reading.{Reading}
+use Rattle.event_reading.specs.Reading as R
 use Rattle.event_reading.specs.Record.{event_size, event_of, read_record}
 
 -- the most bytes of a log that the bench rig looks at, and of an input that is listed; reading itself has no such limit

@@ -11,8 +11,8 @@ use lib.ListN.{length, get_or}
 use Rattle.laws.proofs.Answers.{exactly}
 use Rattle.laws.proofs.Tests.{impossible, test_false, fact_not}
 use Rattle.event_reading.specs.declared.Event.{Event}
-use Rattle.event_reading.specs.declared.Reading.{Reading}
-use Rattle.event_reading.specs.declared.Reading.TheVariants as R
+use Rattle.event_reading.specs.Reading.{Reading}
+use Rattle.event_reading.specs.Reading as R
 use Rattle.event_reading.specs.Event as E
 use Rattle.event_reading.specs.Event.{Zeroed, Ruled, Judged, fault_of}
 use Rattle.event_reading.specs.Record.{Marked, marks, event_of, heard, read_record, Reads, ended, short, unmarked, unknown, stray, whole}

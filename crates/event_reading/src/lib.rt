@@ -2,8 +2,12 @@
 #![tactic(auto)]
 
 ghost use Rattle.std.specs.Prelude.{◌≡◌, ◌≤◌, length};
+ghost use Rattle.refusals.specs.Numbers.{fault_in};
 ghost use Rattle.event_reading.specs.Event.{fault_of};
+ghost use Rattle.event_reading.specs.Reading.{as_reading};
 ghost use Rattle.event_reading.specs.Record.{event_size, event_of, read_record};
+
+use refusals::Refusal;
 
 pub const TICK: u8 = 0;
 
@@ -15,7 +19,7 @@ pub const COMPLETION: u8 = 2;
 pub const EVENT_SIZE: usize = 20;
 
 // An event holds the numbers of its record, so a value too can break 7 or 8.
-#[derive(Clone, Copy)]
+#[derive(Clone, Copy, Debug, PartialEq, Eq)]
 pub struct Event {
     pub kind: u8,
     pub task: u8,
@@ -23,37 +27,22 @@ pub struct Event {
     pub time: u64,
 }
 
-// What reading one record says.
-#[derive(Clone, Copy)]
-pub enum Reading {
-    Event(Event),
-    // No bytes were left.
-    End,
-    Refused(u8),
-}
-
-// 0 where an event obeys the rules of event values, else 7 or 8.
-pub fn judge(event: Event) -> u8
-    ensures { result ≡ fault_of event }
+// Whether an event obeys the rules of event values.
+#[tactic(auto, unfolding(crate::specs::Event::fault_of, crate::specs::Event::zeroes))]
+pub fn judge(event: Event) -> Result<(), Refusal>
+    ensures { fault_in result ≡ fault_of event }
 {
     if COMPLETION < event.kind {
-        return 7;
+        return Err(Refusal::EventKind);
     }
-    // A completion names a task and a job.
-    if RELEASE < event.kind {
-        return 0;
+    // A completion names a task and a job, and a release a task.
+    if event.kind <= RELEASE && event.job != 0 {
+        return Err(Refusal::EventFields);
     }
-    if event.job != 0 {
-        return 8;
+    if event.kind == TICK && event.task != 0 {
+        return Err(Refusal::EventFields);
     }
-    // A release names a task.
-    if TICK < event.kind {
-        return 0;
-    }
-    if event.task != 0 {
-        return 8;
-    }
-    0
+    Ok(())
 }
 
 // The four numbers of a record, whatever its mark.
@@ -61,37 +50,31 @@ fn fields(bytes: &[u8]) -> Event
     requires { event_size ≤ length bytes.now }
     ensures { result ≡ event_of bytes.now }
 {
-    let job = number_reading::get64(&bytes[4..12]);
-    let time = number_reading::get64(&bytes[12..20]);
+    let job = number_reading::get::<u64>(&bytes[4..12]);
+    let time = number_reading::get::<u64>(&bytes[12..20]);
     Event {
         kind: bytes[2],
         task: bytes[3],
-        job: job,
-        time: time,
+        job,
+        time,
     }
 }
 
-// The record at the front of a slice.
-pub fn read(bytes: &[u8]) -> Reading
-    ensures { result ≡ read_record bytes.now }
+// The record at the front of a slice; none where no bytes are left.
+#[tactic(auto, unfolding(crate::specs::Record::read_record, crate::specs::Record::marks))]
+pub fn read(bytes: &[u8]) -> Result<Option<Event>, Refusal>
+    ensures { as_reading result ≡ read_record bytes.now }
 {
-    let size = bytes.len();
-    if size == 0 {
-        return Reading::End;
+    if bytes.is_empty() {
+        return Ok(None);
     }
-    if size < EVENT_SIZE {
-        return Reading::Refused(5);
+    if bytes.len() < EVENT_SIZE {
+        return Err(Refusal::EventSize);
     }
-    if bytes[0] != 0x45 {
-        return Reading::Refused(6);
-    }
-    if bytes[1] != 0x56 {
-        return Reading::Refused(6);
+    if bytes[0] != 0x45 || bytes[1] != 0x56 {
+        return Err(Refusal::EventMark);
     }
     let event = fields(bytes);
-    let fault = judge(event);
-    if fault != 0 {
-        return Reading::Refused(fault);
-    }
-    Reading::Event(event)
+    judge(event)?;
+    Ok(Some(event))
 }

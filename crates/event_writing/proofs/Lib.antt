@@ -2,3 +2,4 @@
 pub mod WriteOne
 pub mod Trips
 pub mod Logs
+pub mod Views

@@ -12,7 +12,7 @@ use Rattle.number_writing.specs.Bytes.{bytes}
 use Rattle.number_writing.proofs.Places.{length-bytes}
 use Rattle.number_writing.proofs.Trips.{number_of-bytes, bytes_of_number}
 use Rattle.event_reading.specs.declared.Event.{Event}
-use Rattle.event_reading.specs.declared.Reading.TheVariants as R
+use Rattle.event_reading.specs.Reading as R
 use Rattle.event_reading.specs.Event.{Ruled}
 use Rattle.event_writing.specs.Writing.{Sized, record_of, after_write, stored}
 use Rattle.event_reading.specs.Record.{Marked, event_of, read_record, whole}

@@ -1,43 +1,35 @@
 -- Writing one record: the computed answer and slice agree with the rules, both ways, and the stores of the code make up the record.
-use Prim.Native.Nat.{ℕ, suc, ◌+◌, ◌-◌, ◌≤◌, ◌<◌}
+use Prim.Native.Nat.{ℕ, suc, ◌+◌, ◌≤◌, ◌<◌}
 use mathlib.Core.Path.{◌≡◌, refl, sym, ap, ◌∙◌}
 use mathlib.Core.Bool.{Bool, true, false, cond}
-use mathlib.Core.List.{List, [], ◌∷◌, ◌++◌, append-nil, append_assoc}
+use mathlib.Core.List.{List, ◌++◌, append-nil, append_assoc}
 use mathlib.Core.Logic.{◌↔◌}
 use native.Mathlib.Omega.{arith}
+use borrow.Rule.Slice.PartMut.{put_mid, same_len_mid}
 use borrow.Author.Tests.{ltb-true, ltb-false, lt-ltb, le-ltb}
 use lib.Dec.{ltb, eqb}
-use lib.ListN.{length, take, drop, set, length-drop, length-append}
-use lib.Seq.{take_at, drop_at, drop-drop, drop-append-add}
-use Rattle.laws.proofs.Parts.{tail_is, tail_last}
+use lib.ListN.{length, take, drop, length-drop, length-append, drop_of_length-le}
+use lib.Seq.{take_at, drop_at, drop-drop, drop-append-add, length-take-le}
 use Rattle.number_writing.specs.Bytes.{bytes, wrote}
 use Rattle.number_writing.proofs.Places.{length-bytes}
 use Rattle.number_writing.proofs.Trips.{wrote_is}
 use Rattle.event_reading.specs.declared.Event.{Event}
-use Rattle.event_writing.specs.declared.Writing.{Writing}
-use Rattle.event_writing.specs.declared.Writing.TheVariants as W
+use Rattle.event_writing.specs.Answer.{Writing}
+use Rattle.event_writing.specs.Answer as W
 use Rattle.event_reading.specs.Event.{Zeroed, Ruled, Judged, unknown, stray, sound}
 use Rattle.event_writing.specs.Writing.{head_of, record_of, write_fault, wrote_record, after_write, Writes, broken_7, broken_8, cramped, stored}
 use Rattle.event_writing.specs.Writing.{written_said}
 use Rattle.event_reading.proofs.Rules.{judged_only, judged_is}
 
--- four stores make the head
-pub head_is : (s : List ℕ) (kind task : ℕ) → 4 ≤ length s → set (set (set (set s 0 0x45) 1 0x56) 2 kind) 3 task ≡ head_of kind task ++ drop 4 s
-head_is [] k t h = absurd (omega arith)
-head_is (a ∷ []) k t h = absurd (omega arith)
-head_is (a ∷ b ∷ []) k t h = absurd (omega arith)
-head_is (a ∷ b ∷ c ∷ []) k t h = absurd (omega arith)
-head_is (a ∷ b ∷ c ∷ d ∷ s) k t h = refl
+-- a number that is put to a part of just 8 bytes
+number_put : (s : List ℕ) (x : ℕ) → length s ≡ 8 → wrote 8 x s ≡ bytes 8 x
+number_put s x h = rw (wrote_is 8 x s (rw h (omega arith)), drop_of_length-le s {i = 8} (rw h (omega arith)), append-nil)
 
--- a number that is put to a part from a place on
-pub number_at : (s : List ℕ) (at x : ℕ) → at + 8 ≤ length s
-    → take at s ++ (wrote 8 x (take (length s - at) (drop at s)) ++ drop (length s - at) (drop at s)) ≡ take at s ++ (bytes 8 x ++ drop (at + 8) s)
-number_at s at x h =
-    let room : 8 ≤ length (drop at s) = rw length-drop (omega arith) in
-    rw (tail_last s at, tail_is s at, wrote_is 8 x (drop at s) room, drop-drop 8 at s, append-nil)
+part_of_8 : (at : ℕ) (s : List ℕ) → at + 8 ≤ length s → length (take 8 (drop at s)) ≡ 8
+part_of_8 at s h = length-take-le 8 (drop at s) (rw length-drop (omega arith))
 
 -- the head, the job at 4 and the time at 12 make the record
-pub record_is : (e : Event) (s a b d : List ℕ)
+record_is : (e : Event) (s a b d : List ℕ)
     → a ≡ head_of e.kind e.task ++ drop 4 s
     → b ≡ take 4 a ++ (bytes 8 e.job ++ drop 12 a)
     → d ≡ take 12 b ++ (bytes 8 e.time ++ drop 20 b)
@@ -48,6 +40,22 @@ record_is e s a b d p q r =
     let t = drop 8 (drop 4 s) in
     let past : drop 16 (j ++ t) ≡ drop 8 t = rw (length-bytes 8 e.job) at (drop-append-add j t 8) in
     rw (r, q, p, take_at j t 8 (length-bytes 8 e.job), past, drop-drop 8 4 s, drop-drop 8 12 s, append_assoc j (bytes 8 e.time) (drop 20 s))
+
+-- the three parts as they are stored one after the other: the head, and each number to a part of 8 bytes
+pub record_stored : (e : Event) (s h j t : List ℕ) → 20 ≤ length s
+    → h ≡ head_of e.kind e.task
+    → j ≡ wrote 8 e.job (take 8 (drop 4 (h ++ drop 4 s)))
+    → t ≡ wrote 8 e.time (take 8 (drop 12 (put_mid 4 8 (h ++ drop 4 s) j)))
+    → put_mid 12 8 (put_mid 4 8 (h ++ drop 4 s) j) t ≡ record_of e ++ drop 20 s
+record_stored e s h j t room p q r =
+    let a = h ++ drop 4 s in
+    let b = put_mid 4 8 a j in
+    let la : length a ≡ length s = rw p (omega (arith, length-drop 4 s)) in
+    let lj : length (take 8 (drop 4 a)) ≡ 8 = part_of_8 4 a (omega arith) in
+    let q' : j ≡ bytes 8 e.job = q ∙ number_put (take 8 (drop 4 a)) e.job lj in
+    let lb : length b ≡ length s = same_len_mid 4 8 a j (ap length q' ∙ length-bytes 8 e.job ∙ sym lj) ∙ la in
+    let r' : t ≡ bytes 8 e.time = r ∙ number_put (take 8 (drop 12 b)) e.time (part_of_8 12 b (omega arith)) in
+    record_is e s a b _ (ap (λ (l : List ℕ). l ++ drop 4 s) p) (rw (q', drop-drop 8 4 a)) (rw (r', drop-drop 8 12 b))
 
 -- what a rule says is the computed answer and slice
 pub writes_only : {e : Event} {s t : List ℕ} {r : Writing} → Writes e s r t → (r ≡ wrote_record e s) × (t ≡ after_write e s)

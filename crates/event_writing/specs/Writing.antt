@@ -2,8 +2,8 @@
 use Rattle.std.specs.Prelude.{ℕ, ◌^◌, ◌≤◌, ◌<◌, cond, List, [], ◌∷◌, ◌++◌, ltb, eqb, length, drop}
 use Rattle.number_writing.specs.Bytes.{bytes}
 use Rattle.event_reading.specs.declared.Event.{Event}
-use Rattle.event_writing.specs.declared.Writing.{Writing}
-use Rattle.event_writing.specs.declared.Writing.TheVariants as W
+use Rattle.event_writing.specs.Answer.{Writing}
+use Rattle.event_writing.specs.Answer as W
 use Rattle.event_reading.specs.Event.{last_kind, Zeroed, Ruled, fault_of}
 use Rattle.event_reading.specs.Record.{event_size}
 use Rattle.laws.specs.Said.{Said}
@@ -24,7 +24,7 @@ pub data Writes (e : Event) (s : List ℕ) : Writing → List ℕ → Type 0 whe
   stored : Ruled e → event_size ≤ length s → Writes e s W.Whole (record_of e ++ drop event_size s)
 
 -- the number of a writing: the value's own refusal, then 14, or 0 where the record is written
-unfoldable pub write_fault : Event → List ℕ → ℕ
+abbrev pub write_fault : Event → List ℕ → ℕ
 write_fault e s = cond (eqb (fault_of e) 0) (cond (ltb (length s) event_size) 14 0) (fault_of e)
 
 unfoldable pub wrote_record : Event → List ℕ → Writing

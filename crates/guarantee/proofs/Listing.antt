@@ -10,7 +10,7 @@ use lib.ListN.{replicate}
 use Rattle.event_reading.specs.declared.Event.{Event}
 use Rattle.table_rules.specs.declared.Task.{Task}
 use Rattle.table_rules.specs.declared.Table.{Table}
-use Rattle.table_rules.specs.declared.Answer.TheVariants.{Accepted}
+use Rattle.table_rules.specs.Answers.{Accepted}
 use Rattle.table_rules.specs.Rules.{no_task}
 use Rattle.task_records.specs.Window.{window_of}
 use Rattle.state_rules.specs.State.{fresh_state}

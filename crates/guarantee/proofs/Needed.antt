@@ -11,7 +11,7 @@ use lib.ListN.{replicate}
 use Rattle.laws.proofs.Tests.{true_not_false}
 use Rattle.event_reading.specs.declared.Event.{Event}
 use Rattle.table_rules.specs.declared.Table.{Table}
-use Rattle.table_rules.specs.declared.Answer.TheVariants as Answer
+use Rattle.table_rules.specs.Answers as Answer
 use Rattle.table_rules.specs.Rules.{task_fault, no_task}
 use Rattle.task_records.specs.declared.Record.{Record}
 use Rattle.task_steps.specs.Opening.{fresh, no_record}
@@ -20,7 +20,7 @@ use Rattle.task_soundness.specs.Sound.{sound_holds}
 use Rattle.state_rules.specs.declared.State.{State}
 use Rattle.state_rules.specs.State.{fresh_state}
 use Rattle.state_rules.specs.Sound.{each_holds, state_holds}
-use Rattle.bound_one.specs.declared.Bound.TheVariants as Bound
+use Rattle.bound_one.specs.Bound as Bound
 use Rattle.bound_all.specs.Asked.{all_answer}
 use Rattle.bound_all.proofs.Computing.{bounds_compute}
 use Rattle.bound_one.specs.Asked.{one_answer}

@@ -14,7 +14,7 @@ use Rattle.laws.proofs.Tests.{true_not_false, tells_true}
 use Rattle.event_reading.specs.declared.Event.{Event}
 use Rattle.table_rules.specs.declared.Task.{Task}
 use Rattle.table_rules.specs.declared.Table.{Table}
-use Rattle.table_rules.specs.declared.Answer.TheVariants.{Accepted}
+use Rattle.table_rules.specs.Answers.{Accepted}
 use Rattle.table_rules.specs.Judging.{judged}
 use Rattle.table_rules.proofs.Exactly.{judged_accepted}
 use Rattle.event_reading.specs.Event.{a_tick, a_release, a_completion}
@@ -22,7 +22,7 @@ use Rattle.task_records.specs.declared.Record.{Record}
 use Rattle.task_records.specs.Closing.{closed}
 use Rattle.task_soundness.proofs.Kept.{end}
 use Rattle.state_rules.specs.declared.State.{State}
-use Rattle.state_choice.specs.declared.Best.{Best}
+use Rattle.state_choice.specs.Best.{Best}
 use Rattle.state_rules.specs.State.{record_at, fresh_state}
 use Rattle.state_rules.specs.Choice.{chosen}
 use Rattle.task_steps.proofs.Ranks.{Before}
@@ -31,7 +31,7 @@ use Rattle.state_rules.proofs.Starting.{fresh_at}
 use Rattle.bound_demand.specs.Above.{task_at, is_above}
 use Rattle.bound_demand.proofs.Order.{above_tells}
 use Rattle.bound_demand.proofs.Obeyed.{deadline_most}
-use Rattle.apply_events.specs.declared.Applied.{Applied}
+use Rattle.apply_events.specs.Answer.{Applied}
 use Rattle.task_steps.specs.Own.{too_soon, reopened}
 use Rattle.task_steps.proofs.OwnSteps.{tick, release, completion, in_turn, job_open}
 use Rattle.apply_events.specs.Steps.{expired_all}

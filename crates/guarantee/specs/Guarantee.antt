@@ -2,7 +2,7 @@
 use Rattle.std.specs.Prelude.{ℕ, ◌+◌, ◌≤◌, ◌<◌, ◌≡◌, true, List}
 use Rattle.event_reading.specs.declared.Event.{Event}
 use Rattle.table_rules.specs.declared.Table.{Table}
-use Rattle.table_rules.specs.declared.Answer.TheVariants.{Accepted}
+use Rattle.table_rules.specs.Answers.{Accepted}
 use Rattle.run_windows.specs.Bound.{Kept}
 use Rattle.state_rules.specs.declared.State.{State}
 use Rattle.state_rules.specs.State.{fresh_state}

@@ -9,12 +9,12 @@ use native.Mathlib.Omega.{arith}
 use lib.ListN.{length, take}
 use lib.Seq.{take-suc, length-take-le}
 use Rattle.laws.proofs.Tests.{by_test, true_not_false, tells_true}
-use Rattle.table_rules.specs.declared.Answer.TheVariants.{Accepted}
+use Rattle.table_rules.specs.Answers.{Accepted}
 use Rattle.table_reading.specs.Table.{read_table}
 use Rattle.event_reading.specs.declared.Event.{Event}
 use Rattle.event_logs.specs.Log.{readable, events_of}
 use Rattle.event_logs.proofs.Records.{readable-fits}
-use Rattle.event_logs.specs.declared.Ending.TheVariants as E
+use Rattle.event_logs.specs.Stops as E
 use Rattle.event_logs.specs.Ending.{ending_of}
 use Rattle.event_logs.proofs.Rests.{rest_end}
 use Rattle.event_logs.proofs.Endings.{ending_whole}
@@ -25,8 +25,8 @@ use Rattle.state_rules.specs.Sound.{StateSound}
 use Rattle.state_rules.specs.Choice.{chosen}
 use Rattle.state_rules.proofs.Sounding.{state_tells}
 use Rattle.state_choice.proofs.Least.{found_below}
-use Rattle.apply_events.specs.declared.Answer.{Answer}
-use Rattle.apply_events.specs.declared.Answer.TheVariants as A
+use Rattle.apply_events.specs.Answer.{Answer}
+use Rattle.apply_events.specs.Answer as A
 use Rattle.apply_events.specs.Apply.{answer_of, applied}
 use Rattle.apply_events.specs.Log.{standing, ran}
 use Rattle.apply_events.proofs.Runs.{ran_by}

@@ -7,7 +7,7 @@ use borrow.Author.Tests.{ne_eqb, le-ltb}
 use lib.ListN.{length, get_or, take, drop, length-append, length-drop, take-append-drop, get_or-append}
 use lib.Seq.{take-add, take-append-le, drop-append-le, drop_at, length-take-le}
 use Rattle.event_reading.specs.declared.Event.{Event}
-use Rattle.event_reading.specs.declared.Reading.TheVariants as R
+use Rattle.event_reading.specs.Reading as R
 use Rattle.event_reading.specs.Record.{marks, event_of, read_record}
 use Rattle.event_logs.specs.Log.{readable, rest_of, events_of}
 use Rattle.event_logs.proofs.Records.{readable-fits}

@@ -8,7 +8,7 @@ use lib.Dec.{lit<}
 use Rattle.event_reading.specs.declared.Event.{Event}
 use Rattle.event_logs.specs.Log.{events_of}
 use Rattle.event_logs.proofs.Computing.{log_computes}
-use Rattle.table_rules.specs.declared.Answer.TheVariants.{Accepted}
+use Rattle.table_rules.specs.Answers.{Accepted}
 use Rattle.table_reading.specs.Table.{read_table}
 use Rattle.table_reading.proofs.Computing.{table_computes}
 use Rattle.state_rules.specs.State.{fresh_state}

@@ -17,7 +17,7 @@ use Rattle.event_reading.specs.declared.Event.{Event}
 use Rattle.event_logs.specs.Log.{events_of}
 use Rattle.state_rules.specs.declared.State.{State}
 use Rattle.state_rules.specs.Sound.{StateSound}
-use Rattle.apply_events.specs.declared.Applied.{Applied}
+use Rattle.apply_events.specs.Answer.{Applied}
 use Rattle.apply_events.specs.Apply.{applied}
 use Rattle.apply_events.specs.Log.{state_after}
 use Rattle.apply_events.proofs.After.{after_sound}

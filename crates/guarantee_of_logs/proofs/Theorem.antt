@@ -11,7 +11,7 @@ use lib.ListN.{length}
 use Rattle.laws.proofs.Tests.{both_hold}
 use Rattle.event_reading.specs.declared.Event.{Event}
 use Rattle.table_rules.specs.declared.Table.{Table}
-use Rattle.table_rules.specs.declared.Answer.TheVariants.{Accepted}
+use Rattle.table_rules.specs.Answers.{Accepted}
 use Rattle.table_reading.specs.Table.{read_table}
 use Rattle.event_logs.specs.Log.{events_of}
 use Rattle.state_rules.specs.declared.State.{State}

@@ -15,7 +15,7 @@ use Rattle.laws.proofs.Sums.{total_same}
 use Rattle.laws.proofs.Tests.{same_test, cond_same}
 use Rattle.event_reading.specs.declared.Event.{Event}
 use Rattle.table_rules.specs.declared.Table.{Table}
-use Rattle.table_rules.specs.declared.Answer.TheVariants.{Accepted}
+use Rattle.table_rules.specs.Answers.{Accepted}
 use Rattle.table_rules.specs.Judging.{judged}
 use Rattle.table_reading.specs.Table.{read_table}
 use Rattle.table_reading.proofs.Given.{read_good}
@@ -29,7 +29,7 @@ use Rattle.state_rules.specs.declared.State.{State}
 use Rattle.state_rules.specs.State.{record_at, fresh_state}
 use Rattle.state_rules.specs.Sound.{StateSound}
 use Rattle.state_rules.specs.Choice.{chosen}
-use Rattle.apply_events.specs.declared.Applied.{Applied}
+use Rattle.apply_events.specs.Answer.{Applied}
 use Rattle.apply_events.specs.Apply.{applied}
 use Rattle.apply_events.proofs.Happened.{Happened, refusal, acceptance, happened}
 use Rattle.apply_events.proofs.Places.{places, stored_place}

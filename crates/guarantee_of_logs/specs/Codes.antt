@@ -5,7 +5,7 @@ use Rattle.event_reading.specs.Record.{event_size}
 use Rattle.event_logs.specs.Log.{most_bytes, events_of}
 use Rattle.state_rules.specs.declared.State.{State}
 use Rattle.state_rules.specs.Choice.{chosen}
-use Rattle.apply_events.specs.declared.Answer.TheVariants.{Refused}
+use Rattle.apply_events.specs.Answer.{Refused}
 use Rattle.apply_events.specs.Apply.{applied}
 use Rattle.rig_codes.specs.Code.{code_of, begins}
 use Rattle.guarantee_of_logs.specs.Places.{event_at, after_first, accepted_at}

@@ -1,6 +1,6 @@
 -- Rules, "The three demands", D3: for the bytes that the C function takes.
 use Rattle.std.specs.Prelude.{ℕ, ◌≤◌, ◌<◌, ◌≡◌, List, length}
-use Rattle.table_rules.specs.declared.Answer.TheVariants.{Accepted}
+use Rattle.table_rules.specs.Answers.{Accepted}
 use Rattle.table_reading.specs.Table.{read_table}
 use Rattle.event_logs.specs.Log.{most_bytes, events_of}
 use Rattle.bound_all.specs.Asked.{all_answer}

@@ -1,2 +1,3 @@
 -- What is shown of a turn beside the functions' contracts.
 pub mod Turns
+pub mod Views

@@ -12,16 +12,16 @@ use Rattle.laws.proofs.Tests.{test_held, test_failed}
 use Rattle.event_reading.specs.declared.Event.{Event}
 use Rattle.task_records.specs.declared.Record.{Record}
 use Rattle.task_steps.specs.Opening.{no_record}
-use Rattle.state_choice.specs.declared.Best.{Best}
+use Rattle.state_choice.specs.Best.{Best}
 use Rattle.state_rules.specs.declared.State.{State}
 use Rattle.state_rules.specs.Sound.{StateSound, state_holds}
 use Rattle.state_choice.specs.Choice.{best_to}
 use Rattle.state_choice.proofs.Least.{best_within}
 use Rattle.state_rules.proofs.Sounding.{state_tells}
-use Rattle.apply_events.specs.declared.Answer.{Answer}
-use Rattle.apply_events.specs.declared.Answer.TheVariants.{Refused}
-use Rattle.apply_events.specs.declared.Applied.{Applied}
-use Rattle.apply_ruling.specs.declared.Ruling.{Ruling}
+use Rattle.apply_events.specs.Answer.{Answer}
+use Rattle.apply_events.specs.Answer.{Refused}
+use Rattle.apply_events.specs.Answer.{Applied}
+use Rattle.apply_ruling.specs.Answer.{Ruling}
 use Rattle.apply_events.specs.Steps.{expired_all}
 use Rattle.apply_events.specs.Apply.{told_of, answer_of, moved, refused, applied}
 use Rattle.apply_ruling.specs.Ruling.{ruled}
@@ -29,7 +29,7 @@ use Rattle.apply_events.proofs.Frame.{refused_stays}
 use Rattle.apply_events.proofs.Happened.{unsound_is}
 use Rattle.apply_engine.proofs.Rulings.{seat_ruled, Accepts, refused_by, accepted_by}
 use Rattle.apply_engine.proofs.Settled.{settled_to, stored_first}
-use Rattle.lent_answers.specs.declared.Turn.{Turn}
+use Rattle.lent_answers.specs.Turn.{Turn}
 use Rattle.lent_records.specs.Row.{state_of}
 use Rattle.lent_records.specs.Expiry.{expired_row}
 use Rattle.lent_records.proofs.Expired.{row_expired}
@@ -42,13 +42,9 @@ row_step l c t = refl
 
 -- ---- the choice over a settled row
 
--- the chosen place is one of the row's, where there is one, and what is told of it is the row's answer
+-- the chosen place is one of the row's, where there is one
 pub chosen_within : (zs : List Record) (best : Best) → 0 < length zs → best ≡ best_to zs (length zs) → best.at < length zs
 chosen_within zs best h e = subst (λ (b : Best). b.at < length zs) (sym e) (best_within zs (length zs) h)
-
-pub chosen_told : (zs : List Record) (best : Best) → best ≡ best_to zs (length zs) → (r : Answer)
-    → r ≡ told_of best (get_or zs best.at no_record).class → r ≡ row_answer zs
-chosen_told zs best e r d = d ∙ ap (λ (b : Best). told_of b (get_or zs b.at no_record).class) e
 
 -- ---- the event as a whole
 
@@ -108,21 +104,9 @@ module _ (l : List Record) (c : ℕ) (e : Event) where
           settled_row_lem (seat_ruled s e) p (accepted_by s e p (seat_ruled s e) refl f)
       go false h f = absurd (omega (arith, f))
 
--- ---- as the proofs of the engine cite it: a test of the code is a Bool b with T b or T (not b)
+-- ---- as the proofs of the engine cite it
 
 module _ (l : List Record) (c : ℕ) (e : Event) where
-  abbrev here : Ruling
-  here = ruled c (length l) (get_or l (seat_in l e) no_record) e
-
-  pub sound_here : (b : Bool) → b ≡ state_holds (state_of l c) → T b → 0 < length l
-  sound_here b h t = holds_some l c e (sym h ∙ test_held b t)
-
-  pub ruled_sound : (b : Bool) → b ≡ state_holds (state_of l c) → T b → (r : Ruling) → r ≡ here → r ≡ ruled_row l c e
-  ruled_sound b h t r z = z ∙ ap (λ (y : Bool). cond y here unsound) (sym (test_held b t) ∙ h)
-
-  pub ruled_unsound : (b : Bool) → b ≡ state_holds (state_of l c) → T (not b) → (r : Ruling) → r ≡ unsound → r ≡ ruled_row l c e
-  ruled_unsound b h t r z = z ∙ ap (λ (y : Bool). cond y here unsound) (sym (test_failed b t) ∙ h)
-
   -- what `apply_in` says of its result and of the row at exit
   abbrev pub TurnSays : Turn → List Record → Type 0
   TurnSays u zs =

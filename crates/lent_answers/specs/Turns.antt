@@ -5,23 +5,27 @@ use Rattle.task_records.specs.declared.Record.{Record}
 use Rattle.task_steps.specs.Opening.{no_record}
 use Rattle.state_rules.specs.Sound.{state_holds}
 use Rattle.state_choice.specs.Choice.{best_to}
-use Rattle.apply_events.specs.declared.Answer.{Answer}
-use Rattle.apply_events.specs.declared.Answer.TheVariants.{Refused}
-use Rattle.apply_events.specs.declared.Applied.{Applied}
-use Rattle.apply_ruling.specs.declared.Ruling.{Ruling}
+use Rattle.apply_events.specs.Answer.{Answer}
+use Rattle.apply_events.specs.Answer.{Refused}
+use Rattle.apply_events.specs.Answer.{Applied}
+use Rattle.apply_ruling.specs.Answer.{Ruling}
 use Rattle.apply_events.specs.Apply.{told_of}
 use Rattle.apply_ruling.specs.Ruling.{seat_of, kept, ruled}
-use Rattle.lent_answers.specs.declared.Turn.{Turn}
+use Rattle.lent_answers.specs.Turn.{Turn}
 use Rattle.lent_records.specs.Row.{state_of}
 use Rattle.lent_records.specs.Expiry.{expired_row}
 
 abbrev pub unsound : Ruling
 unsound = kept 15 no_record
 
--- 15 before all, then the ruling on the record at the event's seat
 abbrev pub seat_in : List Record → Event → ℕ
 seat_in l e = seat_of e.task (length l)
 
+-- the record that is ruled on: the one at the event's seat, and none of a row that is not sound
+abbrev pub ruled_on : List Record → ℕ → Event → Record
+ruled_on l clock e = cond (state_holds (state_of l clock)) (get_or l (seat_in l e) no_record) no_record
+
+-- 15 before all, then the ruling on the record at the event's seat
 abbrev pub ruled_row : List Record → ℕ → Event → Ruling
 ruled_row l clock e = cond (state_holds (state_of l clock)) (ruled clock (length l) (get_or l (seat_in l e) no_record) e) unsound
 

@@ -14,23 +14,23 @@ use Rattle.laws.proofs.Stores.{filled_same, take-set, drop-set, take_filled, dro
 use Rattle.event_reading.specs.declared.Event.{Event}
 use Rattle.task_records.specs.declared.Record.{Record}
 use Rattle.task_steps.specs.Opening.{expired, no_record}
-use Rattle.state_choice.specs.declared.Best.{Best}
+use Rattle.state_choice.specs.Best.{Best}
 use Rattle.state_rules.specs.declared.State.{State}
 use Rattle.state_rules.specs.State.{record_at}
 use Rattle.state_rules.specs.Sound.{StateSound, each_holds, state_holds}
 use Rattle.state_choice.specs.Choice.{best_to}
 use Rattle.state_choice.proofs.Least.{best_within}
 use Rattle.state_rules.proofs.Sounding.{state_tells}
-use Rattle.apply_events.specs.declared.Answer.{Answer}
-use Rattle.apply_events.specs.declared.Applied.{Applied}
-use Rattle.apply_ruling.specs.declared.Ruling.{Ruling}
+use Rattle.apply_events.specs.Answer.{Answer}
+use Rattle.apply_events.specs.Answer.{Applied}
+use Rattle.apply_ruling.specs.Answer.{Ruling}
 use Rattle.apply_events.specs.Steps.{expired_all}
 use Rattle.apply_events.specs.Apply.{told_of, answer_of, moved, accepted, refused, applied}
 use Rattle.apply_ruling.specs.Ruling.{seat_of, ruled}
 use Rattle.apply_events.proofs.Frame.{count_stays}
 use Rattle.apply_events.proofs.Happened.{unsound_is}
 use Rattle.apply_engine.proofs.Rulings.{seat_ruled, refused_by, accepted_by}
-use Rattle.lent_answers.specs.declared.Turn.{Turn}
+use Rattle.lent_answers.specs.Turn.{Turn}
 use Rattle.lent_records.specs.Row.{state_of, row_of}
 use Rattle.lent_answers.specs.Turns.{placed_by}
 use Rattle.lent_records.proofs.Choices.{best_front}

@@ -1,3 +1,2 @@
--- What the walks share, and what an event does to the first records of an array.
-pub mod Called
+-- What an event does to the first records of an array.
 pub mod Fronts

@@ -11,7 +11,7 @@ use lib.Seq.{get_or-take}
 use Rattle.task_records.specs.declared.Record.{Record}
 use Rattle.task_steps.specs.Opening.{no_record}
 use Rattle.laws.proofs.Tests.{true_not_false}
-use Rattle.state_choice.specs.declared.Best.{Best}
+use Rattle.state_choice.specs.Best.{Best}
 use Rattle.state_rules.specs.declared.State.{State}
 use Rattle.state_choice.specs.Choice.{best_to}
 use Rattle.state_rules.specs.Choice.{chosen}

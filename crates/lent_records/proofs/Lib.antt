@@ -1,5 +1,4 @@
--- What the walks share, what the choice over a row is, and how step 1 goes over it.
-pub mod CalledRecord
-pub mod CalledRow
+-- What the choice over a row is, how step 1 goes over it, and when each of its records is sound.
 pub mod Choices
 pub mod Expired
+pub mod Sounds

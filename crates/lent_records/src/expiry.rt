@@ -5,12 +5,11 @@ ghost use Rattle.lent_records.specs.Expiry.{expired_row};
 use super::closing::expire_in;
 use task_records::Record;
 
+#[tactic(auto, unfolding(laws::specs::Stores::filled), using(crate::proofs::Expired::one_passed))]
 pub fn expire_all_in(row: &mut [Record], time: u64)
     ensures { row.new ≡ expired_row row.old time }
 {
-    let mut i: usize = 0;
-    while i < row.len() {
-        expire_in(&mut row[i], time);
-        i += 1;
+    for record in row.iter_mut() {
+        expire_in(record, time);
     }
 }

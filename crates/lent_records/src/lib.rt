@@ -5,4 +5,3 @@ pub mod choice;
 pub mod closing;
 pub mod expiry;
 pub mod sound;
-mod steps;

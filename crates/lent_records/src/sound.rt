@@ -1,19 +1,22 @@
 // Whether a lent row and a clock are a sound state.
 ghost use Rattle.std.specs.Prelude.{◌≡◌};
 ghost use Rattle.state_rules.specs.Sound.{state_holds};
-ghost use Rattle.lent_records.specs.Row.{state_of};
+ghost use Rattle.lent_records.specs.Row.{state_of, admitted};
 
-use super::steps::{admits, sound_on};
+use state_rules::LIMIT;
+use table_rules::MOST_TASKS;
 use task_records::Record;
+use task_soundness::sound;
+
+// What is asked of a state before any record is looked at.
+fn admits(count: usize, clock: u64) -> bool
+    ensures { result ≡ admitted count clock }
+{
+    (1..=MOST_TASKS).contains(&count) && clock <= LIMIT
+}
 
 pub fn is_sound_in(row: &[Record], clock: u64) -> bool
     ensures { result ≡ state_holds (state_of row.now clock) }
 {
-    let mut holds = admits(row.len(), clock);
-    let mut i: usize = 0;
-    while i < row.len() {
-        holds = sound_on(holds, row[i], clock);
-        i += 1;
-    }
-    holds
+    admits(row.len(), clock) && row.iter().all(|&record| sound(record, clock))
 }

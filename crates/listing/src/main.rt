@@ -2,35 +2,25 @@
 // Its exit status is 0 whatever was lost, so a line on standard error says that; where nothing was lost, there is none.
 #![tactic(auto)]
 
-ghost use Rattle.std.specs.Prelude.{length};
-ghost use Rattle.listing.specs.Taken.{Within};
+ghost use Rattle.std.specs.Prelude.{◌≤◌, IfOk, length};
 
-use listing_of_input::{Listing, ROOM, list};
+use listing_of_input::{ROOM, list};
 use std::fs::{self, OpenFile, OpenOptions};
-use std::io::{ErrorKind, Read, Stdin};
+use std::io::{self, ErrorKind, Read, Stdin};
 use std::rt::Files;
 
-// How many bytes were read until the input ended or its bytes were full; or a read failed, and nobody knows what was to come.
-#[derive(Clone, Copy)]
-enum Taken {
-    Whole(usize),
-    Failed,
-}
-
-fn read_in(mut stdin: Stdin, input: &mut [u8]) -> Taken
-    ensures { Within result (length input.new) }
+// How many bytes were read until the input ended or its bytes were full; where a read failed, nobody knows what was to come.
+fn read_in(mut stdin: Stdin, input: &mut [u8]) -> io::Result<usize>
+    ensures { IfOk result (λ n. n ≤ length input.new) }
 {
     let mut done: usize = 0;
     while done < input.len() {
-        let Ok(more) = stdin.read(&mut input[done..]) else {
-            return Taken::Failed;
-        };
-        if more == 0 {
-            break;
+        match stdin.read(&mut input[done..])? {
+            0 => break,
+            more => done += more,
         }
-        done += more;
     }
-    Taken::Whole(done)
+    Ok(done)
 }
 
 const STDOUT: &str = "/dev/stdout";
@@ -55,10 +45,7 @@ fn stored(rt: &impl Files) -> bool {
 
 // The text is written and its file synced, since a disk behind a network may say only then that it is full.
 fn printed(rt: &(impl Print + Files), text: &[u8]) -> bool {
-    if rt.write_all(text).is_err() {
-        return false;
-    }
-    stored(rt)
+    rt.write_all(text).is_ok() && stored(rt)
 }
 
 // What was lost; where even that can't be written, nothing is left to say it on.
@@ -68,7 +55,7 @@ fn told(rt: &impl Eprint, words: &str) {
 
 fn main(rt: HostRuntime) {
     let mut input = [0u8; 65537];
-    let Taken::Whole(size) = read_in(rt.stdin(), &mut input) else {
+    let Ok(size) = read_in(rt.stdin(), &mut input) else {
         told(
             &rt,
             "listing: standard input could not be read to its end, so nothing is listed; give it a file or a pipe",
@@ -77,7 +64,7 @@ fn main(rt: HostRuntime) {
     };
     let mut text = [0u8; ROOM];
     // 14 does not come: no listing is longer
-    let Listing::Text(end) = list(&input[..size], &mut text) else {
+    let Ok(end) = list(&input[..size], &mut text) else {
         return;
     };
     if !printed(&rt, &text[..end]) {

@@ -1,38 +1,34 @@
-// The line of an event, put into the lent bytes at a place; the answer is the place behind it.
+// The line of an event, put on a sheet.
 #![tactic(auto)]
 
-ghost use Rattle.std.specs.Prelude.{◌≡◌};
-ghost use Rattle.text_writing.specs.Sheet.{sheet, puts};
-ghost use Rattle.apply_events.specs.declared.Answer.TheVariants.{Run};
+ghost use Rattle.apply_events.specs.Answer.{Run, as_told};
+ghost use Rattle.text_writing.specs.Puts.{Puts};
 ghost use Rattle.listing_text.specs.EventLines.{answer_text, event_line};
 
-use apply_events::Answer;
-use text_writing::{field, words};
+use apply_events::{Answer, Chosen};
+use text_writing::Sheet;
 
-fn run(out: &mut [u8], at: usize, position: usize, class: u32) -> usize
-    ensures { sheet out.new result ≡ puts (sheet out.old at) (answer_text (Run position class)) }
+fn run(sheet: &mut Sheet<'_>, chosen: Chosen)
+    ensures { Puts sheet.old sheet.new (answer_text (Run chosen.position chosen.class)) }
 {
-    let a = field(out, at, b" run ", position as u64);
-    field(out, a, b" class ", class as u64)
+    sheet.field(b" run ", chosen.position as u64);
+    sheet.field(b" class ", u64::from(chosen.class));
 }
 
-fn answer_text(out: &mut [u8], at: usize, answer: Answer) -> usize
-    ensures { sheet out.new result ≡ puts (sheet out.old at) (answer_text answer) }
+fn answer_text(sheet: &mut Sheet<'_>, answer: Answer)
+    ensures { Puts sheet.old sheet.new (answer_text (as_told answer)) }
 {
     match answer {
-        Answer::Run {
-            position: p,
-            class: c,
-        } => run(out, at, p, c),
-        Answer::Idle => words(out, at, b" idle"),
-        Answer::Refused(n) => field(out, at, b" refused ", n as u64),
+        Ok(Some(chosen)) => run(sheet, chosen),
+        Ok(None) => sheet.words(b" idle"),
+        Err(refusal) => sheet.field(b" refused ", u64::from(refusal.number())),
     }
 }
 
-pub fn event(out: &mut [u8], at: usize, i: usize, answer: Answer) -> usize
-    ensures { sheet out.new result ≡ puts (sheet out.old at) (event_line i answer) }
+pub fn event(sheet: &mut Sheet<'_>, i: usize, answer: Answer)
+    ensures { Puts sheet.old sheet.new (event_line i (as_told answer)) }
 {
-    let a = field(out, at, b"event ", i as u64);
-    let b = answer_text(out, a, answer);
-    words(out, b, b"\n")
+    sheet.field(b"event ", i as u64);
+    answer_text(sheet, answer);
+    sheet.words(b"\n");
 }

@@ -1,33 +1,29 @@
-// The line of a task before the events, put into the lent bytes at a place; the answer is the place behind it.
+// The line of a task before the events, put on a sheet.
 #![tactic(auto)]
 
-ghost use Rattle.std.specs.Prelude.{◌≡◌};
-ghost use Rattle.text_writing.specs.Sheet.{sheet, puts};
+ghost use Rattle.bound_one.specs.Bound.{as_bound};
+ghost use Rattle.text_writing.specs.Puts.{Puts};
 ghost use Rattle.listing_text.specs.TaskLines.{bound_text, task_line};
 
-use bound_one::Bound;
-use table_rules::Task;
+use table_rules::{Refused, Task};
 use task_thresholds::{h, w};
-use text_writing::{field, words};
+use text_writing::Sheet;
 
-fn bound_text(out: &mut [u8], at: usize, bound: Bound) -> usize
-    ensures { sheet out.new result ≡ puts (sheet out.old at) (bound_text bound) }
+fn bound_text(sheet: &mut Sheet<'_>, bound: Result<u32, Refused>)
+    ensures { Puts sheet.old sheet.new (bound_text (as_bound bound)) }
 {
     match bound {
-        Bound::At(r) => field(out, at, b" bound ", r as u64),
-        Bound::Refused {
-            number: _,
-            position: _,
-        } => words(out, at, b" bound -"),
+        Ok(r) => sheet.field(b" bound ", u64::from(r)),
+        Err(_) => sheet.words(b" bound -"),
     }
 }
 
-pub fn task(out: &mut [u8], at: usize, i: usize, task: Task, bound: Bound) -> usize
-    ensures { sheet out.new result ≡ puts (sheet out.old at) (task_line i task bound) }
+pub fn task(sheet: &mut Sheet<'_>, i: usize, task: Task, bound: Result<u32, Refused>)
+    ensures { Puts sheet.old sheet.new (task_line i task (as_bound bound)) }
 {
-    let a = field(out, at, b"task ", i as u64);
-    let b = field(out, a, b" w ", w(task.m, task.k) as u64);
-    let c = field(out, b, b" h ", h(task.m, task.k) as u64);
-    let d = bound_text(out, c, bound);
-    words(out, d, b"\n")
+    sheet.field(b"task ", i as u64);
+    sheet.field(b" w ", u64::from(w(task.m, task.k)));
+    sheet.field(b" h ", u64::from(h(task.m, task.k)));
+    bound_text(sheet, bound);
+    sheet.words(b"\n");
 }

@@ -4,56 +4,59 @@
 ghost use Rattle.std.specs.Prelude.{◌≡◌};
 ghost use Rattle.event_logs.specs.Log.{events_of};
 ghost use Rattle.event_logs.specs.Ending.{ending_of};
-ghost use Rattle.text_writing.specs.Sheet.{sheet, puts};
+ghost use Rattle.event_logs.specs.Stops.{as_ending};
+ghost use Rattle.text_writing.specs.Puts.{Puts};
 ghost use Rattle.apply_events.specs.Log.{state_after};
 ghost use Rattle.listing_text.specs.LogLines.{event_lines, stop_by};
 
 use apply_engine::apply::apply;
-use event_logs::{Ending, ended};
-use event_reading::{EVENT_SIZE, Reading, read};
+use event_logs::Stop;
+use event_reading::{EVENT_SIZE, read};
 use state_rules::State;
+use text_writing::Sheet;
 
-// Where the lines of the events end, the state after them, and what ended the reading.
-#[derive(Clone, Copy)]
+// The state after the events, and what ended the reading.
+#[derive(Clone, Copy, Debug, PartialEq, Eq)]
 pub struct Ended {
-    pub place: usize,
     pub state: State,
-    pub ending: Ending,
+    pub ending: Result<(), Stop>,
 }
 
 // One line per event, the state after them, and what ended the reading.
-pub fn each_event(out: &mut [u8], at: usize, first: State, log: &[u8]) -> Ended
-    ensures { (sheet out.new result.place ≡ puts (sheet out.old at) (event_lines 1 first (events_of log.now)))
-        × ((result.state ≡ state_after first (events_of log.now)) × (result.ending ≡ ending_of log.now)) }
+pub fn each_event(sheet: &mut Sheet<'_>, first: State, log: &[u8]) -> Ended
+    ensures { (Puts sheet.old sheet.new (event_lines 1 first (events_of log.now)))
+        × ((result.state ≡ state_after first (events_of log.now)) × (as_ending result.ending ≡ ending_of log.now)) }
 {
-    let mut place = at;
     let mut state = first;
     let mut i: usize = 0;
     let mut from: usize = 0;
-    loop {
-        let got = read(&log[from..]);
-        let Reading::Event(event) = got else {
-            return Ended {
-                place: place,
-                state: state,
-                ending: ended(got, from),
-            };
-        };
-        let done = apply(state, event);
-        state = done.state;
-        i += 1;
-        let said = done.answer;
-        place = listing_event_line::event(out, place, i, said);
-        from += EVENT_SIZE;
-    }
+    let ending = loop {
+        match read(&log[from..]) {
+            Ok(Some(event)) => {
+                let done = apply(state, event);
+                state = done.state;
+                i += 1;
+                listing_event_line::event(sheet, i, done.answer);
+                from += EVENT_SIZE;
+            }
+            Ok(None) => break Ok(()),
+            Err(refusal) => {
+                break Err(Stop {
+                    refusal,
+                    offset: from,
+                });
+            }
+        }
+    };
+    Ended { state, ending }
 }
 
 // The line that says where the reading stopped, if a record did not read.
-pub fn stop(out: &mut [u8], at: usize, ending: Ending) -> usize
-    ensures { sheet out.new result ≡ puts (sheet out.old at) (stop_by ending) }
+#[tactic(auto, using(text_writing::proofs::Putting::none_put))]
+pub fn stop(sheet: &mut Sheet<'_>, ending: Result<(), Stop>)
+    ensures { Puts sheet.old sheet.new (stop_by (as_ending ending)) }
 {
-    let Ending::Stopped { number, offset } = ending else {
-        return at;
-    };
-    listing_refusal_line::stop(out, at, number, offset)
+    if let Err(found) = ending {
+        listing_refusal_line::stop(sheet, found);
+    }
 }

@@ -9,12 +9,21 @@ use native.Mathlib.Omega.{arith}
 use borrow.Author.Tests.{lt-ltb, le-ltb, ltb-true, ltb-false}
 use lib.Dec.{ltb}
 use lib.ListN.{length, drop}
+use Rattle.std.specs.Prelude.{Result, Ok, Err}
 use Rattle.laws.proofs.Tests.{impossible}
+use Rattle.refusals.specs.declared.Refusal.{Refusal}
+use Rattle.refusals.proofs.Numbers.{number_tells}
 use Rattle.listing_text.specs.Listing.{listing_of}
 use Rattle.listing_text.proofs.Fits.{listing_fits}
-use Rattle.listing_of_input.specs.declared.Listing.{Listing}
-use Rattle.listing_of_input.specs.declared.Listing.TheVariants.{Text, Refused}
+use Rattle.listing_of_input.specs.Answer.{Listing, Text, Refused, as_listing}
 use Rattle.listing_of_input.specs.Lent.{room, Lists, short, whole, list_answer, listed_into, list_said}
+
+-- what the code answers can be told from the rules' terms for it
+pub listing_tells : (a b : Result ℕ Refusal) → as_listing a ≡ as_listing b → a ≡ b
+listing_tells (Ok m) (Ok n) e = ap Ok cc
+listing_tells (Ok m) (Err r) e = impossible cc
+listing_tells (Err r) (Ok n) e = impossible cc
+listing_tells (Err r) (Err q) e = ap Err (number_tells r q cc)
 
 -- what a rule says is the computed answer and bytes
 pub lists_only : {s out t : List ℕ} {r : Listing} → Lists s out r t → (r ≡ list_answer s (length out)) × (t ≡ listed_into s out)

@@ -1,8 +1,7 @@
 -- The listing in lent bytes: 14 exactly where they are too short for it, and then they stay as they were; bytes past the text stay.
 use Rattle.std.specs.Prelude.{ℕ, ◌≤◌, ◌<◌, cond, List, [], ◌∷◌, ◌++◌, ltb, length, drop}
 use Rattle.laws.specs.Said.{Said}
-use Rattle.listing_of_input.specs.declared.Listing.{Listing}
-use Rattle.listing_of_input.specs.declared.Listing.TheVariants.{Text, Refused}
+use Rattle.listing_of_input.specs.Answer.{Listing, Text, Refused}
 use Rattle.listing_text.specs.Listing.{listing_of}
 
 -- bytes that are enough for every listing (`room_enough`)

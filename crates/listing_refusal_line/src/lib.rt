@@ -1,35 +1,38 @@
-// The lines that say what was not listed, put into the lent bytes at a place; the answer is the place behind it.
+// The lines that say what was not listed, put on a sheet.
 #![tactic(auto)]
 
-ghost use Rattle.std.specs.Prelude.{◌≡◌};
-ghost use Rattle.text_writing.specs.Sheet.{sheet, puts};
+ghost use Rattle.refusals.specs.Numbers.{number_of};
+ghost use Rattle.text_writing.specs.Puts.{Puts};
 ghost use Rattle.listing_text.specs.RefusalLines.{too_long, found_at, refused_line, stop_line};
 
-use text_writing::{field, words};
+use event_logs::Stop;
+use refusals::Refusal;
+use table_rules::Refused;
+use text_writing::Sheet;
 
-pub fn too_long(out: &mut [u8], at: usize) -> usize
-    ensures { sheet out.new result ≡ puts (sheet out.old at) too_long }
+pub fn too_long(sheet: &mut Sheet<'_>)
+    ensures { Puts sheet.old sheet.new too_long }
 {
-    words(out, at, b"input too long\n")
+    sheet.words(b"input too long\n");
 }
 
 // A word, a refusal's number, and where it was found.
-fn found_at(out: &mut [u8], at: usize, word: &[u8], number: u64, place: u64) -> usize
-    ensures { sheet out.new result ≡ puts (sheet out.old at) (found_at word.now number place) }
+fn found_at(sheet: &mut Sheet<'_>, word: &[u8], refusal: Refusal, place: usize)
+    ensures { Puts sheet.old sheet.new (found_at word.now (number_of refusal) place) }
 {
-    let a = field(out, at, word, number);
-    let b = field(out, a, b" at ", place);
-    words(out, b, b"\n")
+    sheet.field(word, u64::from(refusal.number()));
+    sheet.field(b" at ", place as u64);
+    sheet.words(b"\n");
 }
 
-pub fn refused(out: &mut [u8], at: usize, number: u8, position: usize) -> usize
-    ensures { sheet out.new result ≡ puts (sheet out.old at) (refused_line number position) }
+pub fn refused(sheet: &mut Sheet<'_>, found: Refused)
+    ensures { Puts sheet.old sheet.new (refused_line (number_of found.refusal) found.position) }
 {
-    found_at(out, at, b"table refused ", number as u64, position as u64)
+    found_at(sheet, b"table refused ", found.refusal, found.position);
 }
 
-pub fn stop(out: &mut [u8], at: usize, number: u8, offset: usize) -> usize
-    ensures { sheet out.new result ≡ puts (sheet out.old at) (stop_line number offset) }
+pub fn stop(sheet: &mut Sheet<'_>, found: Stop)
+    ensures { Puts sheet.old sheet.new (stop_line (number_of found.refusal) found.offset) }
 {
-    found_at(out, at, b"stop ", number as u64, offset as u64)
+    found_at(sheet, b"stop ", found.refusal, found.offset);
 }

@@ -9,8 +9,7 @@ use lib.Dec.{ltb}
 use lib.ListN.{length, length-append, length-drop}
 use Rattle.laws.proofs.Tests.{by_test}
 use Rattle.text_writing.proofs.Decimals.{decimal_short}
-use Rattle.table_rules.specs.declared.Answer.{Answer}
-use Rattle.table_rules.specs.declared.Answer.TheVariants.{Accepted, Refused}
+use Rattle.table_rules.specs.Answers.{Answer, Accepted, Refused}
 use Rattle.table_rules.specs.declared.Table.{Table}
 use Rattle.table_rules.specs.declared.Task.{Task}
 use Rattle.table_rules.specs.Judging.{judged}
@@ -21,11 +20,11 @@ use Rattle.table_rules.proofs.Ruling.{fault_none}
 use Rattle.table_reading.specs.Table.{read_table}
 use Rattle.table_reading.proofs.Given.{read_good}
 use Rattle.bound_demand.specs.Above.{task_at}
-use Rattle.bound_one.specs.declared.Bound.{Bound}
+use Rattle.bound_one.specs.Bound.{Bound}
 use Rattle.bound_one.specs.Asked.{one_answer}
 use Rattle.event_reading.specs.declared.Event.{Event}
-use Rattle.event_reading.specs.declared.Reading.{Reading}
-use Rattle.event_reading.specs.declared.Reading.TheVariants as R
+use Rattle.event_reading.specs.Reading.{Reading}
+use Rattle.event_reading.specs.Reading as R
 use Rattle.event_reading.specs.Record.{read_record}
 use Rattle.event_reading.specs.Answer.{read_said}
 use Rattle.event_logs.specs.Log.{readable, rest_of, events_of}
@@ -40,7 +39,7 @@ use Rattle.task_soundness.specs.Sound.{Sound}
 use Rattle.state_rules.specs.declared.State.{State}
 use Rattle.state_rules.specs.Sound.{limit, StateSound}
 use Rattle.state_rules.specs.State.{record_at, fresh_state}
-use Rattle.apply_events.specs.declared.Answer.{Answer as Said}
+use Rattle.apply_events.specs.Answer.{Answer as Said}
 use Rattle.apply_events.specs.Apply.{applied}
 use Rattle.apply_events.proofs.Kept.{applied_sound}
 use Rattle.listing_text.specs.TaskLines.{bound_text, task_line, last_line}

@@ -29,19 +29,21 @@ module _ (s : List ℕ) where
       go true q = refl
       go false q = absurd (q refl)
 
-  pub from_is : (events_from s ≡ 0 → ⊥) → events_from s ≡ 1 + 16 * n
-  from_is k = rw (from_some k)
+  -- where the table is there
+  module _ (there : table_there s ≡ true) where
+    pub from_is : events_from s ≡ 1 + 16 * n
+    from_is = rw there
 
-  pub from_within : (events_from s ≡ 0 → ⊥) → events_from s ≤ length s
-  from_within k =
-      let h = each_holds (leb 1 n ∷ leb n 16 ∷ leb (1 + 16 * n) (length s) ∷ []) (from_some k) in
-      rw (from_is k) (leb-true _ _ (h 2))
+    pub from_within : events_from s ≤ length s
+    from_within =
+        let h = each_holds (leb 1 n ∷ leb n 16 ∷ leb (1 + 16 * n) (length s) ∷ []) there in
+        rw from_is (leb-true _ _ (h 2))
 
-  -- the two parts of the input that are lent
-  pub table_part : (events_from s ≡ 0 → ⊥) → take (events_from s - 1) (drop 1 s) ≡ table_bytes s
-  table_part k =
-      let e : events_from s - 1 ≡ 16 * n = omega (arith, from_is k) in
-      rw e
+    -- the two parts of the input that are lent
+    pub table_part : take (events_from s - 1) (drop 1 s) ≡ table_bytes s
+    table_part =
+        let e : events_from s - 1 ≡ 16 * n = omega (arith, from_is) in
+        rw e
 
-  pub events_part : (events_from s ≡ 0 → ⊥) → take (length s - events_from s) (drop (events_from s) s) ≡ event_bytes s
-  events_part k = tail_is s (events_from s) ∙ ap (λ (x : ℕ). drop x s) (from_is k)
+    pub events_part : take (length s - events_from s) (drop (events_from s) s) ≡ event_bytes s
+    events_part = tail_is s (events_from s) ∙ ap (λ (x : ℕ). drop x s) from_is

@@ -12,7 +12,7 @@ use lib.ListN.{length, replicate}
 use Rattle.laws.proofs.Numbers.{ceiling_small}
 use Rattle.laws.proofs.Stores.{filled_below}
 use Rattle.laws.proofs.Tests.{impossible, by_test}
-use Rattle.table_rules.specs.declared.Answer.TheVariants.{Accepted, Refused}
+use Rattle.table_rules.specs.Answers.{Accepted, Refused}
 use Rattle.table_rules.specs.declared.Table.{Table}
 use Rattle.table_rules.specs.declared.Task.{Task}
 use Rattle.table_rules.specs.Judging.{first_fault, judged}
@@ -26,11 +26,11 @@ use Rattle.table_reading.specs.Table.{bytes_at, record_fault_at, bytes_hold, rea
 use Rattle.table_reading.proofs.Exactly.{whole_tells, length_at}
 use Rattle.table_reading.proofs.Records.{record_among}
 use Rattle.table_reading.proofs.Given.{answer_is}
-use Rattle.bound_search.specs.declared.Found.{Found}
+use Rattle.std.specs.Prelude.{Option, Some, None}
 use Rattle.bound_demand.specs.Above.{task_at}
 use Rattle.bound_search.specs.Bound.{bound_of}
 use Rattle.bound_search.proofs.Meets.{bound_is}
-use Rattle.bound_one.specs.declared.Bound.{Bound}
+use Rattle.bound_one.specs.Bound.{Bound}
 use Rattle.bound_one.specs.Asked.{or_thirteen, one_answer}
 use Rattle.event_reading.specs.declared.Event.{Event}
 use Rattle.event_reading.specs.Event.{last_kind, zeroes, fault_of}
@@ -41,16 +41,14 @@ use Rattle.task_records.specs.Window.{window_of}
 use Rattle.task_soundness.specs.Counts.{open_of}
 use Rattle.task_soundness.specs.Sound.{Sound}
 use Rattle.task_soundness.proofs.Kept.{fresh_sound}
-use Rattle.state_choice.specs.declared.Best.{Best}
+use Rattle.state_choice.specs.Best.{Best}
 use Rattle.state_rules.specs.declared.State.{State}
 use Rattle.state_choice.specs.Choice.{best_to}
 use Rattle.state_rules.specs.Sound.{limit, StateSound}
-use Rattle.state_rules.specs.State.{fresh_state}
+use Rattle.state_rules.specs.State.{fresh_state, record_at}
 use Rattle.state_choice.proofs.Least as Least
 use Rattle.state_choice.proofs.Least.{best_is}
-use Rattle.state_rules.specs.State.{record_at}
-use Rattle.apply_events.specs.declared.Answer.{Answer as Said}
-use Rattle.apply_events.specs.declared.Applied.{Applied}
+use Rattle.apply_events.specs.Answer.{Answer as Said, Applied}
 use Rattle.apply_events.specs.Apply.{answer_of, applied}
 use Rattle.apply_events.specs.Verdict.{Verdict, unsound, unruled, untimely, no_task_lem, too_soon_lem, no_job, ticks, releases, completes}
 use Rattle.apply_events.proofs.Happened.{Happened, refusal, acceptance, happened}
@@ -98,13 +96,13 @@ module _ (t : Table) (good : judged t ≡ Accepted) (i : ℕ) (h : i < t.count) 
   unfolding one_answer
   bound_small r e = go (bound_of t i) refl (rw (good, lt-ltb i t.count h) at e)
     where
-      go : (f : Found) → bound_of t i ≡ f → or_thirteen f i ≡ Bound.At r → r < 10000000
-      go (Found.At x) q p =
+      go : (f : Option ℕ) → bound_of t i ≡ f → or_thirteen f i ≡ Bound.At r → r < 10000000
+      go (Some x) q p =
           let y : x ≡ r = cc in
           let b = (bound_is t i x).0 q in
           let u = ((fault_none (task_at t i)).0 task_ruled).0 in
           omega (arith, b.within, u.spaced, u.limit)
-      go Found.Nothing q p = impossible cc
+      go None q p = impossible cc
 
 -- ---- what an event answers
 

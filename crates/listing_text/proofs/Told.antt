@@ -5,16 +5,16 @@ use mathlib.Core.Bool.{true, false}
 use mathlib.Core.List.{List, []}
 use borrow.Author.Tests.{lt-ltb, le-ltb}
 use lib.ListN.{length, drop}
-use Rattle.table_rules.specs.declared.Answer.TheVariants.{Accepted, Refused}
+use Rattle.table_rules.specs.Answers.{Accepted, Refused}
 use Rattle.table_rules.specs.declared.Table.{Table}
 use Rattle.table_rules.specs.Judging.{judged}
 use Rattle.table_reading.specs.Table.{read_table}
-use Rattle.bound_search.specs.declared.Found.{Found}
+use Rattle.std.specs.Prelude.{Some, None}
 use Rattle.bound_search.specs.Bound.{IsBound, NoBound, bound_of}
 use Rattle.bound_search.proofs.Meets.{bound_is, bound_none}
 use Rattle.bound_one.specs.Asked.{or_thirteen, one_answer}
 use Rattle.event_reading.specs.declared.Event.{Event}
-use Rattle.event_reading.specs.declared.Reading.TheVariants as R
+use Rattle.event_reading.specs.Reading as R
 use Rattle.event_reading.specs.Record.{read_record}
 use Rattle.event_logs.specs.Log.{readable}
 use Rattle.event_logs.proofs.Rests.{rest_end}
@@ -37,12 +37,12 @@ module _ (t : Table) (good : judged t ≡ Accepted) (i : ℕ) (h : i < t.count) 
 
   pub bound_shown : (r : ℕ) → IsBound t i r → bound_text (one_answer t i) ≡ field_of bound_word r
   bound_shown r b =
-      let e : bound_of t i ≡ Found.At r = (bound_is t i r).1 b in
+      let e : bound_of t i ≡ Some r = (bound_is t i r).1 b in
       shown ∙ rw e
 
   pub dash_shown : NoBound t i → bound_text (one_answer t i) ≡ no_bound_word
   dash_shown b =
-      let e : bound_of t i ≡ Found.Nothing = (bound_none t i).1 b in
+      let e : bound_of t i ≡ None = (bound_none t i).1 b in
       shown ∙ rw e
 
 -- ---- the state at the end is the one that applying the log gives

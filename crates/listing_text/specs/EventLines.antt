@@ -1,7 +1,6 @@
 -- Rules, "The listing": what the line of an event says.
 use Rattle.std.specs.Prelude.{ℕ, List, ◌++◌}
-use Rattle.apply_events.specs.declared.Answer.{Answer}
-use Rattle.apply_events.specs.declared.Answer.TheVariants.{Run, Idle, Refused}
+use Rattle.apply_events.specs.Answer.{Answer, Run, Idle, Refused}
 use Rattle.listing_text.specs.Fields.{field_of}
 use Rattle.listing_text.specs.Words.{event_word, run_word, class_word, idle_word, refused_word, line_end}
 

@@ -2,10 +2,9 @@
 use Rattle.std.specs.Prelude.{ℕ, ◌+◌, ◌*◌, Bool, cond, List, [], ◌∷◌, ◌++◌, leb, ltb, length, get_or, take, drop}
 use Rattle.laws.specs.Tests.{all_of}
 use Rattle.table_rules.specs.declared.Table.{Table}
-use Rattle.table_rules.specs.declared.Answer.{Answer}
-use Rattle.table_rules.specs.declared.Answer.TheVariants.{Accepted, Refused}
+use Rattle.table_rules.specs.Answers.{Answer, Accepted, Refused}
 use Rattle.table_rules.specs.Limits.{most_tasks}
-use Rattle.table_reading.specs.declared.TableRead.{TableRead}
+use Rattle.table_reading.specs.Answers.{TableRead}
 use Rattle.table_reading.specs.Row.{task_size}
 use Rattle.table_reading.specs.Table.{read_table}
 use Rattle.event_logs.specs.Log.{most_bytes, events_of}

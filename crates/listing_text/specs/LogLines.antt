@@ -1,8 +1,8 @@
 -- Rules, "The listing": one line per event, and where the reading stopped.
 use Rattle.std.specs.Prelude.{ℕ, ◌+◌, List, [], ◌∷◌, ◌++◌}
 use Rattle.event_reading.specs.declared.Event.{Event}
-use Rattle.event_logs.specs.declared.Ending.{Ending}
-use Rattle.event_logs.specs.declared.Ending.TheVariants as E
+use Rattle.event_logs.specs.Stops.{Ending}
+use Rattle.event_logs.specs.Stops as E
 use Rattle.event_logs.specs.Ending.{ending_of}
 use Rattle.state_rules.specs.declared.State.{State}
 use Rattle.apply_events.specs.Apply.{applied}

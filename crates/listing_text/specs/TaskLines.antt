@@ -2,7 +2,7 @@
 use Rattle.std.specs.Prelude.{ℕ, List, ◌++◌}
 use Rattle.table_rules.specs.declared.Task.{Task}
 use Rattle.task_thresholds.specs.Thresholds.{w_of, h_of}
-use Rattle.bound_one.specs.declared.Bound.{Bound}
+use Rattle.bound_one.specs.Bound.{Bound}
 use Rattle.task_records.specs.declared.Record.{Record}
 use Rattle.task_records.specs.Window.{window_of}
 use Rattle.task_soundness.specs.Counts.{open_of}

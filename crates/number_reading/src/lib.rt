@@ -1,38 +1,81 @@
-// Little-endian numbers read from byte slices: one reader, with the width as a parameter. Each width of the interface calls it.
+// Little-endian numbers read from byte slices: one reader, over the type of the number, which has the width.
 #![tactic(auto)]
 
-ghost use Rattle.std.specs.Prelude.{◌≡◌, ◌≤◌, ◌<◌, ◌^◌, get_or, take};
+ghost use Rattle.std.specs.Prelude.{ℕ, ◌≡◌, ◌≤◌, ◌<◌, ◌^◌, length, take};
+ghost use Rattle.std.proofs.Common.{arith};
 ghost use Rattle.number_reading.specs.Words.{number};
 
-// The byte at a place, 0 where there is none.
-fn byte(s: &[u8], at: usize) -> u64
-    ensures { result ≡ get_or s.now at 0 }
-{
-    if at < s.len() { s[at] as u64 } else { 0 }
+// An unsigned number that stands in bytes, at most 8 of them.
+pub trait Number: Copy {
+    ghost WIDTH: { ℕ };
+
+    ghost value: { Self → ℕ };
+
+    // Its bytes.
+    const WIDTH: usize;
+
+    fn narrow(x: u64) -> Self
+        requires { x < 256 ^ WIDTH }
+        ensures { value result ≡ x };
+
+    fn wide(self) -> u64
+        ensures { result ≡ value self };
+
+    ghost within_eight: { WIDTH ≤ 8 };
 }
 
-// The number that the first n bytes spell; one that is not there counts as 0.
-fn get(s: &[u8], n: usize) -> u64
-    requires { n ≤ 8 }
-    ensures { (result ≡ number (take n s.now)) × (result < 256 ^ n) }
+impl Number for u32 {
+    ghost WIDTH = { 4 };
+
+    ghost value = { λ x. x };
+
+    const WIDTH: usize = 4;
+
+    fn narrow(x: u64) -> u32 {
+        x as u32
+    }
+
+    fn wide(self) -> u64 {
+        u64::from(self)
+    }
+
+    ghost within_eight = { omega arith };
+}
+
+impl Number for u64 {
+    ghost WIDTH = { 8 };
+
+    ghost value = { λ x. x };
+
+    const WIDTH: usize = 8;
+
+    fn narrow(x: u64) -> u64 {
+        x
+    }
+
+    fn wide(self) -> u64 {
+        self
+    }
+
+    ghost within_eight = { omega arith };
+}
+
+// The number that the bytes spell.
+fn spelled(s: &[u8]) -> u64
+    requires { length s.now ≤ 8 }
+    ensures { (result ≡ number s.now) × (result < 256 ^ length s.now) }
 {
     let mut x: u64 = 0;
-    let mut i = n;
-    while 0 < i {
-        i -= 1;
-        x = x * 256 + byte(s, i);
+    for b in s.iter().rev() {
+        x = x * 256 + u64::from(*b);
     }
     x
 }
 
-pub fn get32(s: &[u8]) -> u32
-    ensures { result ≡ number (take 4 s.now) }
+// The number at the front; a byte that is not there counts as 0.
+pub fn get<N: Number>(s: &[u8]) -> N
+    ensures { N.value result ≡ number (take N.WIDTH s.now) }
 {
-    get(s, 4) as u32
-}
-
-pub fn get64(s: &[u8]) -> u64
-    ensures { result ≡ number (take 8 s.now) }
-{
-    get(s, 8)
+    let n = N::WIDTH.min(s.len());
+    N::narrow(spelled(&s[..n]))
 }

@@ -6,6 +6,7 @@ ghost use Rattle.rig_codes.specs.Code.{code_of};
 
 use event_logs::MOST_BYTES;
 use rig_log_code::{log_code, refusal};
+use state_reading::begun;
 
 #[unsafe(no_mangle)]
 pub extern "C" fn brumerola_choice(table: &[u8], log: &[u8]) -> u32
@@ -14,15 +15,8 @@ pub extern "C" fn brumerola_choice(table: &[u8], log: &[u8]) -> u32
     if MOST_BYTES < log.len() {
         return 64;
     }
-    let read = table_reading::table::read(table);
-    let answer = read.answer;
-    if let table_rules::Answer::Refused {
-        number: number,
-        position: _,
-    } = answer
-    {
-        return refusal(number);
+    match begun(table) {
+        Ok(state) => log_code(state, log),
+        Err(refused) => refusal(refused.refusal),
     }
-    let begun = state_rules::fresh::start(read.table);
-    log_code(begun.state, log)
 }

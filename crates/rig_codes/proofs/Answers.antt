@@ -17,10 +17,8 @@ use Rattle.state_rules.specs.Sound.{StateSound, state_holds}
 use Rattle.state_rules.specs.Choice.{chosen}
 use Rattle.state_choice.proofs.Least.{found_below}
 use Rattle.state_rules.proofs.Sounding.{state_tells}
-use Rattle.apply_events.specs.declared.Answer.{Answer}
-use Rattle.apply_events.specs.declared.Answer.TheVariants as A
-use Rattle.apply_events.specs.declared.Applied.{Applied}
-use Rattle.apply_events.specs.declared.Ran.{Ran}
+use Rattle.apply_events.specs.Answer.{Answer, Applied, Ran}
+use Rattle.apply_events.specs.Answer as A
 use Rattle.apply_events.specs.Apply.{answer_of, applied}
 use Rattle.apply_events.specs.Verdict.{Verdict, unsound, unruled, untimely, no_task_lem, too_soon_lem, no_job, ticks, releases, completes}
 use Rattle.apply_events.specs.Log.{standing, ran_over, ran}

@@ -4,10 +4,10 @@ use mathlib.Core.Path.{◌≡◌, ap}
 use mathlib.Core.List.{List}
 use borrow.Author.Tests.{lt-ltb, le-ltb}
 use lib.ListN.{length}
-use Rattle.table_rules.specs.declared.Answer.TheVariants as T
+use Rattle.table_rules.specs.Answers as T
 use Rattle.table_reading.specs.Table.{read_table}
 use Rattle.state_rules.specs.declared.State.{State}
-use Rattle.event_logs.specs.declared.Ending.TheVariants as E
+use Rattle.event_logs.specs.Stops as E
 use Rattle.apply_events.specs.Log.{ran}
 use Rattle.rig_codes.specs.Code.{refused, too_long, of_answer, after_reading, log_case, begins, case_of}
 

@@ -9,19 +9,18 @@ use native.Mathlib.Omega.{arith}
 use lib.ListN.{length}
 use Rattle.laws.proofs.Answers.{exactly, one_answer}
 use Rattle.laws.proofs.Tests.{impossible}
-use Rattle.table_rules.specs.declared.Answer as D
-use Rattle.table_rules.specs.declared.Answer.TheVariants as T
+use Rattle.table_rules.specs.Answers as T
 use Rattle.table_reading.specs.Table.{read_table}
 use Rattle.event_reading.specs.declared.Event.{Event}
-use Rattle.event_reading.specs.declared.Reading.{Reading}
-use Rattle.event_reading.specs.declared.Reading.TheVariants as R
+use Rattle.event_reading.specs.Reading.{Reading}
+use Rattle.event_reading.specs.Reading as R
 use Rattle.event_reading.specs.Record.{read_record}
 use Rattle.event_logs.specs.Log.{readable, rest_of, events_in, events_of}
 use Rattle.event_logs.specs.Ending.{ending_of}
 use Rattle.event_logs.proofs.Records.{readable-fits}
 use Rattle.event_logs.proofs.Rests.{rest_silent, rest_end}
-use Rattle.apply_events.specs.declared.Answer.TheVariants as A
-use Rattle.apply_events.specs.declared.Applied.{Applied}
+use Rattle.apply_events.specs.Answer as A
+use Rattle.apply_events.specs.Answer.{Applied}
 use Rattle.apply_events.specs.Apply.{applied}
 use Rattle.apply_events.specs.Log.{standing, ran_over, state_after, ended_with, ran}
 use Rattle.apply_events.proofs.Runs.{ran_by, ran_sound}
@@ -118,7 +117,7 @@ module _ (table log : List ℕ) where
   pub given_is : Given table log (case_of table log)
   given_is = go (dec_lt 65536 (length log))
     where
-      judged : length log ≤ 65536 → (a : D.Answer) → (read_table table).answer ≡ a → Given table log (case_of table log)
+      judged : length log ≤ 65536 → (a : T.Answer) → (read_table table).answer ≡ a → Given table log (case_of table log)
       judged l T.Accepted q = has_begun (record { within = l; tabled = q })
       judged l (T.Refused n p) q = rw (case_table table log l n p q) (bad_table l q)
 

@@ -8,18 +8,18 @@ use native.Mathlib.Omega.{arith}
 use borrow.Author.Tests.{lt-ltb, le-ltb, ne_eqb}
 use lib.ListN.{length}
 use Rattle.laws.proofs.Tests.{impossible}
-use Rattle.table_rules.specs.declared.Answer.TheVariants as T
+use Rattle.table_rules.specs.Answers as T
 use Rattle.table_reading.specs.Table.{read_table}
 use Rattle.table_reading.proofs.Exactly.{read_among}
 use Rattle.table_reading.proofs.Given.{answer_is}
 use Rattle.event_reading.specs.declared.Event.{Event}
-use Rattle.event_reading.specs.declared.Reading.TheVariants as R
+use Rattle.event_reading.specs.Reading as R
 use Rattle.event_reading.specs.Record.{read_record}
 use Rattle.event_logs.specs.Log.{rest_of, events_of}
 use Rattle.event_reading.proofs.ReadOne.{read_end}
 use Rattle.event_logs.proofs.Rests.{rest_refused}
-use Rattle.apply_events.specs.declared.Answer.{Answer}
-use Rattle.apply_events.specs.declared.Answer.TheVariants as A
+use Rattle.apply_events.specs.Answer.{Answer}
+use Rattle.apply_events.specs.Answer as A
 use Rattle.apply_events.specs.Apply.{applied}
 use Rattle.apply_events.specs.Log.{state_after}
 use Rattle.rig_codes.specs.Code.{Case, chosen, none, refused, too_long, Fits, code_for, case_for, of_answer, begins, case_of, code_of}

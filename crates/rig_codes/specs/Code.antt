@@ -1,15 +1,14 @@
 -- Rules, "The bench rig": table bytes and log bytes give one number for the last event.
 use Rattle.std.specs.Prelude.{ℕ, ◌+◌, ◌-◌, ◌≤◌, ◌<◌, cond, List, eqb, ltb, length}
-use Rattle.table_rules.specs.declared.Answer as D
-use Rattle.table_rules.specs.declared.Answer.TheVariants as T
+use Rattle.table_rules.specs.Answers as T
 use Rattle.table_reading.specs.Table.{read_table}
 use Rattle.state_rules.specs.declared.State.{State}
 use Rattle.state_rules.specs.State.{fresh_state}
 use Rattle.event_logs.specs.Log.{most_bytes}
-use Rattle.event_logs.specs.declared.Ending.{Ending}
-use Rattle.event_logs.specs.declared.Ending.TheVariants as E
-use Rattle.apply_events.specs.declared.Answer.{Answer}
-use Rattle.apply_events.specs.declared.Answer.TheVariants as A
+use Rattle.event_logs.specs.Stops.{Ending}
+use Rattle.event_logs.specs.Stops as E
+use Rattle.apply_events.specs.Answer.{Answer}
+use Rattle.apply_events.specs.Answer as A
 use Rattle.apply_events.specs.Log.{ran}
 
 -- the answers of the rig
@@ -53,7 +52,7 @@ unfoldable pub log_case : State → List ℕ → Case
 log_case s log = after_reading (ran s log).ending (of_answer (ran s log).answer)
 
 -- a table refusal goes before both
-abbrev pub after_table : D.Answer → Case → Case
+abbrev pub after_table : T.Answer → Case → Case
 after_table T.Accepted x = x
 after_table (T.Refused n p) x = refused n
 

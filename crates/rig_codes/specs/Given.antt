@@ -1,12 +1,12 @@
 -- The rules' sentences on the rig as rules, in their order: each leaves the earlier ones out. `given_exactly` shows that they agree with `case_of`.
 use Rattle.std.specs.Prelude.{ℕ, ◌≤◌, ◌<◌, ◌≡◌, List, [], ◌∷◌, ◌++◌, length}
-use Rattle.table_rules.specs.declared.Answer.TheVariants as T
+use Rattle.table_rules.specs.Answers as T
 use Rattle.table_reading.specs.Table.{read_table}
 use Rattle.event_reading.specs.declared.Event.{Event}
-use Rattle.event_reading.specs.declared.Reading.TheVariants as R
+use Rattle.event_reading.specs.Reading as R
 use Rattle.event_reading.specs.Record.{read_record}
 use Rattle.event_logs.specs.Log.{most_bytes, rest_of, events_of}
-use Rattle.apply_events.specs.declared.Answer.TheVariants as A
+use Rattle.apply_events.specs.Answer as A
 use Rattle.apply_events.specs.Apply.{applied}
 use Rattle.apply_events.specs.Log.{state_after}
 use Rattle.rig_codes.specs.Code.{Case, none, refused, too_long, of_answer, begins}

@@ -2,39 +2,30 @@
 #![tactic(auto)]
 
 ghost use Rattle.std.specs.Prelude.{◌≡◌, ◌+◌, ◌^◌, ◌<◌};
+ghost use Rattle.refusals.specs.Numbers.{number_of};
+ghost use Rattle.apply_events.specs.Answer.{as_told};
 ghost use Rattle.rig_codes.specs.Code.{code_for, of_answer, log_case};
 
 use apply_events::Answer;
-use event_logs::Ending;
+use refusals::Refusal;
 use state_rules::State;
 
 // 32 + N for refusal N.
-pub fn refusal(number: u8) -> u32
-    ensures { result ≡ 32 + number }
+pub fn refusal(refused: Refusal) -> u32
+    ensures { result ≡ 32 + number_of refused }
 {
-    32 + (number as u32)
+    32 + u32::from(refused.number())
 }
 
-// 0 to 15 the chosen task.
-fn place(position: usize) -> u32
-    requires { position < 2 ^ 32 }
-    ensures { result ≡ position }
-{
-    position as u32
-}
-
-// The chosen task, 16 for none, or the refusal.
+// The chosen task, 0 to 15, 16 for none, or the refusal.
 fn code_of(answer: Answer) -> u32
-    requires { code_for (of_answer answer) < 2 ^ 32 }
-    ensures { result ≡ code_for (of_answer answer) }
+    requires { code_for (of_answer (as_told answer)) < 2 ^ 32 }
+    ensures { result ≡ code_for (of_answer (as_told answer)) }
 {
     match answer {
-        Answer::Run {
-            position: p,
-            class: _,
-        } => place(p),
-        Answer::Idle => 16,
-        Answer::Refused(n) => refusal(n),
+        Ok(Some(chosen)) => chosen.position as u32,
+        Ok(None) => 16,
+        Err(refused) => refusal(refused),
     }
 }
 
@@ -43,14 +34,8 @@ pub fn log_code(state: State, log: &[u8]) -> u32
     ensures { result ≡ code_for (log_case state log.now) }
 {
     let ran = apply_engine::log::run(state, log);
-    let ending = ran.ending;
-    if let Ending::Stopped {
-        number: number,
-        offset: _,
-    } = ending
-    {
-        return refusal(number);
+    match ran.ending {
+        Ok(()) => code_of(ran.answer),
+        Err(stop) => refusal(stop.refusal),
     }
-    let said = ran.answer;
-    code_of(said)
 }

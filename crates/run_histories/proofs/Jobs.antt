@@ -13,7 +13,7 @@ use Rattle.event_reading.specs.declared.Event.{Event}
 use Rattle.task_levels.specs.Level.{class_of}
 use Rattle.table_rules.specs.declared.Task.{Task}
 use Rattle.table_rules.specs.declared.Table.{Table}
-use Rattle.table_rules.specs.declared.Answer.TheVariants.{Accepted}
+use Rattle.table_rules.specs.Answers.{Accepted}
 use Rattle.table_rules.specs.Judging.{judged}
 use Rattle.table_rules.proofs.Exactly.{judged_accepted}
 use Rattle.table_rules.proofs.Ruling.{fault_none}

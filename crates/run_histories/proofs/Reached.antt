@@ -7,7 +7,7 @@ use lib.ListN.{length, get_or, replicate, length-set}
 use Rattle.laws.proofs.Stores.{length_filled, filled_past}
 use Rattle.event_reading.specs.declared.Event.{Event}
 use Rattle.table_rules.specs.declared.Table.{Table}
-use Rattle.table_rules.specs.declared.Answer.TheVariants.{Accepted}
+use Rattle.table_rules.specs.Answers.{Accepted}
 use Rattle.table_rules.specs.Judging.{judged}
 use Rattle.task_steps.specs.Opening.{fresh, no_record}
 use Rattle.state_rules.specs.declared.State.{State}
@@ -15,7 +15,7 @@ use Rattle.state_rules.specs.State.{record_at, fresh_state}
 use Rattle.state_rules.specs.Sound.{StateSound}
 use Rattle.state_rules.proofs.Starting.{fresh_at, start_sound}
 use Rattle.bound_demand.specs.Above.{task_at}
-use Rattle.apply_events.specs.declared.Applied.{Applied}
+use Rattle.apply_events.specs.Answer.{Applied}
 use Rattle.apply_events.specs.Apply.{acted, applied}
 use Rattle.apply_events.proofs.Frame.{count_stays, past_stays, row_stays}
 use Rattle.apply_events.proofs.Happened.{Happened, refusal, acceptance, happened}

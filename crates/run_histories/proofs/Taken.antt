@@ -15,8 +15,8 @@ use Rattle.state_rules.specs.declared.State.{State}
 use Rattle.state_rules.specs.State.{record_at}
 use Rattle.state_rules.specs.Sound.{StateSound}
 use Rattle.state_rules.specs.Choice.{chosen}
-use Rattle.apply_events.specs.declared.Answer.TheVariants.{Run, Idle}
-use Rattle.apply_events.specs.declared.Applied.{Applied}
+use Rattle.apply_events.specs.Answer.{Run, Idle}
+use Rattle.apply_events.specs.Answer.{Applied}
 use Rattle.apply_events.specs.Apply.{answer_of, acted, applied}
 use Rattle.apply_events.proofs.Happened.{Happened, refusal, acceptance, happened, sound_acts}
 use Rattle.apply_events.proofs.Places.{places, stored_place}

@@ -9,7 +9,7 @@ use lib.Dec.{eqb}
 use Rattle.laws.proofs.Tests.{true_not_false, both_hold}
 use Rattle.event_reading.specs.declared.Event.{Event}
 use Rattle.table_rules.specs.declared.Table.{Table}
-use Rattle.table_rules.specs.declared.Answer.TheVariants.{Accepted}
+use Rattle.table_rules.specs.Answers.{Accepted}
 use Rattle.table_rules.specs.Judging.{judged}
 use Rattle.task_records.specs.declared.Record.{Record}
 use Rattle.task_records.proofs.Steps.{closed_idle}

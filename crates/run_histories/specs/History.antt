@@ -5,8 +5,8 @@ use Rattle.event_reading.specs.Event.{a_completion}
 use Rattle.task_records.specs.declared.Record.{Record}
 use Rattle.state_rules.specs.declared.State.{State}
 use Rattle.state_rules.specs.State.{record_at}
-use Rattle.apply_events.specs.declared.Answer.{Answer}
-use Rattle.apply_events.specs.declared.Answer.TheVariants.{Run, Idle, Refused}
+use Rattle.apply_events.specs.Answer.{Answer}
+use Rattle.apply_events.specs.Answer.{Run, Idle, Refused}
 use Rattle.apply_events.specs.Apply.{applied}
 
 -- the state that a run leaves; a refused event leaves the one before it

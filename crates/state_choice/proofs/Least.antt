@@ -16,7 +16,7 @@ use Rattle.task_records.specs.declared.Record.{Record}
 use Rattle.task_steps.specs.Opening.{no_record}
 use Rattle.task_steps.specs.Rank.{JobAbove, key_of}
 use Rattle.task_steps.proofs.Ranks.{Before, above_once, key_tells}
-use Rattle.state_choice.specs.declared.Best.{Best}
+use Rattle.state_choice.specs.Best.{Best}
 use Rattle.state_choice.specs.Choice.{wins, better, best_to}
 use Rattle.state_choice.specs.Least.{Least, NoneOpen}
 

@@ -3,7 +3,7 @@ use Rattle.std.specs.Prelude.{ℕ, zero, suc, Bool, true, false, cond, List, ltb
 use Rattle.task_records.specs.declared.Record.{Record}
 use Rattle.task_steps.specs.Opening.{no_record}
 use Rattle.task_steps.specs.Rank.{key_of}
-use Rattle.state_choice.specs.declared.Best.{Best}
+use Rattle.state_choice.specs.Best.{Best}
 
 abbrev pub none : Best
 none = record { found = false; key = 0; at = 0 }

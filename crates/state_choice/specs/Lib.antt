@@ -1,3 +1,4 @@
 -- What the crate's contracts cite.
+pub mod Best
 pub mod Choice
 pub mod Least

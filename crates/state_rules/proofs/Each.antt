@@ -1,17 +1,24 @@
 -- A test of every position holds exactly if each position's does: by induction on how many were looked at.
-use Prim.Native.Nat.{ℕ, zero, suc, ◌<◌}
-use mathlib.Core.Path.{◌≡◌, refl, sym, ap, ◌∙◌}
-use mathlib.Core.Bool.{true, false, cond}
+use Prim.Native.Nat.{ℕ, zero, suc, ◌≤◌, ◌<◌}
+use mathlib.Core.Path.{◌≡◌, refl, ap, ◌∙◌}
+use mathlib.Core.Bool.{Bool, true, false, cond, ◌&&◌}
 use mathlib.Core.List.{List}
 use native.Mathlib.Decide.{ℕ_discrete}
 use native.Mathlib.Nat.{not-suc-le-zero}
+use native.Mathlib.Numerals.{add-one}
 use native.Mathlib.Omega.{arith}
-use lib.ListN.{get_or}
-use Rattle.laws.proofs.Tests.{cond_same, both_hold}
+use lib.ListN.{get_or, length, take}
+use Rattle.std.specs.List.{list_all}
+use Rattle.std.proofs.lemmas.List.Folds.{list_all_more}
+use Rattle.laws.proofs.Tests.{both_hold}
 use Rattle.task_records.specs.declared.Record.{Record}
 use Rattle.task_steps.specs.Opening.{no_record}
 use Rattle.task_soundness.specs.Sound.{sound_holds}
 use Rattle.state_rules.specs.Sound.{each_holds}
+
+both_is : (a b : Bool) → (a && b) ≡ cond a b false
+both_is true b = refl
+both_is false b = refl
 
 module _ (l : List Record) (clock : ℕ) where
   pub each_at : (n : ℕ) → each_holds l clock n ≡ true → (i : ℕ) → i < n → sound_holds (get_or l i no_record) clock ≡ true
@@ -30,14 +37,11 @@ module _ (l : List Record) (clock : ℕ) where
   each_if zero k = refl
   each_if (suc n) k = rw (each_if n (λ i h. k i (omega arith)), k n (omega arith))
 
-  -- one that fails fails them all
-  pub one_fails : (n i : ℕ) → i < n → sound_holds (get_or l i no_record) clock ≡ false → each_holds l clock n ≡ false
+  -- so does the library's test of the row's first positions
+  pub each_is : (n : ℕ) → n ≤ length l → list_all (λ r. sound_holds r clock) (take n l) ≡ each_holds l clock n
   unfolding each_holds
-  one_fails zero i h e = absurd (not-suc-le-zero h)
-  one_fails (suc n) i h e = go (ℕ_discrete i n) (one_fails n i)
-    where
-      go : Dec (i ≡ n) → (i < n → sound_holds (get_or l i no_record) clock ≡ false → each_holds l clock n ≡ false)
-          → cond (each_holds l clock n) (sound_holds (get_or l n no_record) clock) false ≡ false
-      go (yes q) k = let w : sound_holds (get_or l n no_record) clock ≡ false =
-          ap (λ (j : ℕ). sound_holds (get_or l j no_record) clock) (sym q) ∙ e in rw w (cond_same (each_holds l clock n) false)
-      go (no q) k = let w : each_holds l clock n ≡ false = k (omega arith) e in rw w
+  each_is zero h = refl
+  each_is (suc n) h =
+      let e = list_all_more (λ (r : Record). sound_holds r clock) l n no_record (omega arith) in
+      let f = each_is n (omega arith) in
+      rw add-one at e ∙ both_is (list_all (λ (r : Record). sound_holds r clock) (take n l)) _ ∙ rw f

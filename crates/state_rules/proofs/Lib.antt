@@ -2,3 +2,4 @@
 pub mod Each
 pub mod Sounding
 pub mod Starting
+pub mod Views

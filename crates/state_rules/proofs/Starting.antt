@@ -6,7 +6,7 @@ use native.Mathlib.Omega.{arith}
 use lib.ListN.{get_or, replicate}
 use Rattle.laws.proofs.Stores.{filled_below}
 use Rattle.laws.proofs.Tests.{true_not_false}
-use Rattle.table_rules.specs.declared.Answer.TheVariants.{Accepted}
+use Rattle.table_rules.specs.Answers.{Accepted}
 use Rattle.table_rules.specs.declared.Table.{Table}
 use Rattle.table_rules.specs.Rules.{no_task}
 use Rattle.table_rules.specs.Judging.{judged}
@@ -14,7 +14,7 @@ use Rattle.table_rules.proofs.Exactly.{judged_accepted}
 use Rattle.task_records.specs.declared.Record.{Record}
 use Rattle.task_steps.specs.Opening.{fresh, no_record}
 use Rattle.task_soundness.proofs.Kept.{fresh_sound}
-use Rattle.state_choice.specs.declared.Best.{Best}
+use Rattle.state_choice.specs.Best.{Best}
 use Rattle.state_rules.specs.State.{record_at, fresh_state}
 use Rattle.state_rules.specs.Sound.{StateSound}
 use Rattle.state_rules.specs.Choice.{chosen}

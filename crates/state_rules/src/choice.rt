@@ -1,6 +1,7 @@
 // The choice of a state: over the tasks that it counts.
 ghost use Rattle.std.specs.Prelude.{◌≡◌, min};
 ghost use Rattle.table_rules.specs.Limits.{place_count};
+ghost use Rattle.state_choice.specs.Best.{as_best};
 ghost use Rattle.state_rules.specs.Choice.{chosen};
 
 use super::State;
@@ -11,22 +12,16 @@ use table_rules::PLACES;
 pub fn places(count: usize) -> usize
     ensures { result ≡ min count place_count }
 {
-    if PLACES < count { PLACES } else { count }
+    count.min(PLACES)
 }
 
-pub fn choose(state: State) -> Best
-    ensures { result ≡ chosen state }
+#[tactic(auto, unfolding(state_choice::specs::Choice::best_to))]
+pub fn choose(state: State) -> Option<Best>
+    ensures { as_best result ≡ chosen state }
 {
-    let count = places(state.count);
-    let mut best = Best {
-        found: false,
-        key: 0,
-        at: 0,
-    };
-    let mut i: usize = 0;
-    while i < count {
+    let mut best = None;
+    for i in 0..places(state.count) {
         best = better_of(best, state.records[i], i);
-        i += 1;
     }
     best
 }

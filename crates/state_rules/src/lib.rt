@@ -11,16 +11,9 @@ use task_records::Record;
 // The limit of time, in ticks.
 pub const LIMIT: u64 = 1000000000000;
 
-#[derive(Clone, Copy)]
+#[derive(Clone, Copy, Debug, PartialEq, Eq)]
 pub struct State {
     pub count: usize,
     pub clock: u64,
     pub records: [Record; PLACES],
-}
-
-// The state beside the answer: no tasks where the table is refused.
-#[derive(Clone, Copy)]
-pub struct Started {
-    pub answer: table_rules::Answer,
-    pub state: State,
 }

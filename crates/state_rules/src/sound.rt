@@ -1,32 +1,27 @@
 // Whether a state is sound: the rules' clauses, over the tasks that it counts.
 ghost use Rattle.std.specs.Prelude.{◌≡◌};
+ghost use Rattle.std.specs.List.{list_all};
+ghost use Rattle.task_soundness.specs.Sound.{sound_holds};
 ghost use Rattle.state_rules.specs.Sound.{state_holds};
 
 use super::{LIMIT, State};
 use table_rules::MOST_TASKS;
+use task_records::Record;
 use task_soundness::sound;
 
+fn all_sound(records: &[Record], clock: u64) -> bool
+    ensures { result ≡ list_all (λ r. sound_holds r clock) records.now }
+{
+    records.iter().all(|record| sound(*record, clock))
+}
+
+#[tactic(auto, unfolding(crate::specs::Sound::state_holds))]
 pub fn is_sound(state: State) -> bool
     ensures { result ≡ state_holds state }
 {
     let count = state.count;
-    if count < 1 {
-        return false;
-    }
-    if MOST_TASKS < count {
-        return false;
-    }
-    if LIMIT < state.clock {
-        return false;
-    }
-    let mut i: usize = 0;
-    while i < count {
-        let holds = sound(state.records[i], state.clock);
-        if holds {
-            i += 1;
-        } else {
-            return false;
-        }
-    }
-    true
+    1 <= count
+        && count <= MOST_TASKS
+        && state.clock <= LIMIT
+        && all_sound(&state.records[..count], state.clock)
 }

@@ -10,7 +10,7 @@ use lib.Dec.{eqb}
 use lib.ListN.{length, drop, length-drop}
 use lib.Seq.{length-take-le}
 use Rattle.laws.proofs.Tests.{Tells, tells, tells_true, both_hold}
-use Rattle.table_rules.specs.declared.Answer.TheVariants.{Accepted, Refused}
+use Rattle.table_rules.specs.Answers.{Accepted, Refused}
 use Rattle.table_rules.specs.Rules.{count_holds}
 use Rattle.table_rules.specs.Answers.{number_of}
 use Rattle.table_rules.proofs.Exactly.{counted_tells, accepted_by, one_by, at_by}

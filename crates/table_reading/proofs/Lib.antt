@@ -4,3 +4,4 @@ pub mod Rows
 pub mod Exactly
 pub mod Given
 pub mod Computing
+pub mod Views

@@ -7,11 +7,22 @@ use native.Mathlib.Omega.{arith}
 use borrow.Author.Tests.{eq-eqb, ne_eqb}
 use lib.ListN.{length, get_or}
 use Rattle.laws.proofs.Tests.{impossible}
-use Rattle.table_reading.specs.declared.Row.{Row}
+use Rattle.refusals.specs.declared.Refusal.{Refusal}
+use Rattle.refusals.specs.Numbers.{number_of}
+use Rattle.refusals.proofs.Numbers.{number_some}
+use Rattle.table_reading.specs.Answers.{Row}
 use Rattle.table_rules.specs.declared.Task.{Task}
 use Rattle.table_rules.specs.Rules.{task_fault}
 use Rattle.table_reading.specs.Answers.{row_said}
 use Rattle.table_reading.specs.Row.{Marked, task_of, record_fault, row_by, read_row}
+
+-- a refusal's number is never the 0 of a task
+pub row_by_number : (r : Refusal) (t : Task) → row_by (number_of r) t ≡ Row.Refused (number_of r)
+row_by_number r t = go (number_of r) (number_some r)
+  where
+    go : (n : ℕ) → (n ≡ 0 → ⊥) → row_by n t ≡ Row.Refused n
+    go zero k = absurd (k refl)
+    go (suc n) k = refl
 
 module _ (s : List ℕ) where
   pub not_16 : (length s ≡ 16 → ⊥) → record_fault s ≡ 1

@@ -4,7 +4,7 @@ use Rattle.laws.specs.Tests.{all_of}
 use Rattle.number_reading.specs.Words.{number}
 use Rattle.table_rules.specs.declared.Task.{Task}
 use Rattle.table_rules.specs.Rules.{task_fault}
-use Rattle.table_reading.specs.declared.Row.{Row}
+use Rattle.table_reading.specs.Answers as Row
 
 -- the bytes of a table record
 abbrev pub task_size : ℕ
@@ -33,9 +33,9 @@ task_of s =
 unfoldable pub record_fault : List ℕ → ℕ
 record_fault s = cond (eqb (length s) task_size) (cond (mark_holds s) (task_fault (task_of s)) 2) 1
 
-abbrev pub row_by : ℕ → Task → Row
+abbrev pub row_by : ℕ → Task → Row.Row
 row_by zero t = Row.Task t
 row_by (suc n) t = Row.Refused (suc n)
 
-unfoldable pub read_row : List ℕ → Row
+unfoldable pub read_row : List ℕ → Row.Row
 read_row s = row_by (record_fault s) (task_of s)

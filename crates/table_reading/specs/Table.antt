@@ -1,15 +1,17 @@
 -- Rules, "The task table": what table bytes read as.
-use Rattle.std.specs.Prelude.{ℕ, ◌*◌, ◌/◌, ◌%◌, ◌≡◌, Bool, false, cond, List, eqb, length, take, drop, replicate}
+use Rattle.std.specs.Prelude.{ℕ, ◌*◌, ◌/◌, ◌%◌, ◌≡◌, Bool, false, cond, List, eqb, length, take, drop, replicate, Result, Ok, Err}
 use Rattle.laws.specs.Stores.{filled}
 use Rattle.table_rules.specs.declared.Task.{Task}
+use Rattle.refusals.specs.Numbers.{number_of}
 use Rattle.table_rules.specs.declared.Table.{Table}
-use Rattle.table_rules.specs.declared.Answer.{Answer}
-use Rattle.table_rules.specs.declared.Answer.TheVariants.{Accepted, Refused}
+use Rattle.table_rules.specs.declared.Refused as D
+use Rattle.table_rules.specs.Answers.{Answer}
+use Rattle.table_rules.specs.Answers.{Accepted, Refused}
 use Rattle.table_rules.specs.Limits.{place_count}
 use Rattle.table_rules.specs.Rules.{Counted, count_holds, no_task}
 use Rattle.table_rules.specs.Judging.{one_then}
 use Rattle.table_reading.specs.Row.{task_size, task_of, record_fault}
-use Rattle.table_reading.specs.declared.TableRead.{TableRead}
+use Rattle.table_reading.specs.Answers.{TableRead}
 
 -- the bytes of the record at a position
 abbrev pub bytes_at : List ℕ → ℕ → List ℕ
@@ -38,6 +40,11 @@ no_table = record { count = 0; tasks = replicate place_count no_task }
 -- the tasks of n records, and zeros past them
 abbrev pub table_of : List ℕ → ℕ → Table
 table_of s n = record { count = n; tasks = filled (task_from s) n (replicate place_count no_task) }
+
+-- what the code answers, in these terms: no table is handed over where one is refused
+abbrev pub as_table_read : Result Table D.Refused → TableRead
+as_table_read (Ok t) = record { answer = Accepted; table = t }
+as_table_read (Err r) = record { answer = Refused (number_of r.refusal) r.position; table = no_table }
 
 abbrev pub beside : Answer → Table → TableRead
 beside Accepted t = record { answer = Accepted; table = t }

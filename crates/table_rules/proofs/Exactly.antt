@@ -10,8 +10,8 @@ use borrow.Author.Tests.{le-leb, leb-true}
 use lib.Dec.{leb}
 use lib.ListN.{get_or}
 use Rattle.laws.proofs.Tests.{impossible, Tells, tells, each_holds}
-use Rattle.table_rules.specs.declared.Answer.{Answer}
-use Rattle.table_rules.specs.declared.Answer.TheVariants.{Accepted, Refused}
+use Rattle.table_rules.specs.Answers.{Answer}
+use Rattle.table_rules.specs.Answers.{Accepted, Refused}
 use Rattle.table_rules.specs.declared.Table.{Table}
 use Rattle.table_rules.specs.Rules.{Counted, count_holds, no_task}
 use Rattle.table_rules.specs.Answers.{number_of}

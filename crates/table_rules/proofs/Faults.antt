@@ -5,8 +5,8 @@ use native.Mathlib.Nat.{not-suc-le-zero}
 use native.Mathlib.Decide.{ℕ_discrete}
 use native.Mathlib.Omega.{arith}
 use Rattle.laws.proofs.Tests.{impossible}
-use Rattle.table_rules.specs.declared.Answer.{Answer}
-use Rattle.table_rules.specs.declared.Answer.TheVariants.{Accepted, Refused}
+use Rattle.table_rules.specs.Answers.{Answer}
+use Rattle.table_rules.specs.Answers.{Accepted, Refused}
 use Rattle.table_rules.specs.Judging.{or_else, first_fault}
 
 -- position p has the fault x, and none before it has one

@@ -1,8 +1,8 @@
 -- Rules, "Order of refusals", for tables: 1 first, then task by task the first fault, with its position.
 use Rattle.std.specs.Prelude.{ℕ, zero, suc, Bool, cond, get_or}
 use Rattle.table_rules.specs.declared.Table.{Table}
-use Rattle.table_rules.specs.declared.Answer.{Answer}
-use Rattle.table_rules.specs.declared.Answer.TheVariants.{Accepted, Refused}
+use Rattle.table_rules.specs.Answers.{Answer}
+use Rattle.table_rules.specs.Answers.{Accepted, Refused}
 use Rattle.table_rules.specs.Rules.{task_fault, count_holds, no_task}
 
 -- a refusal stands; after none, a fault at position i is refused there

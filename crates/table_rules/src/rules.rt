@@ -1,82 +1,53 @@
 // Judging a task and a table: the first rule that is broken, by the rules' number.
 ghost use Rattle.std.specs.Prelude.{◌≡◌};
 ghost use Rattle.table_rules.specs.Rules.{times_hold, misses_hold, task_fault};
+ghost use Rattle.refusals.specs.Numbers.{fault_in};
+ghost use Rattle.table_rules.specs.Answers.{as_answer};
 ghost use Rattle.table_rules.specs.Judging.{judged};
 
-use super::{Answer, LONGEST_T, MOST_TASKS, Table, Task, WIDEST_K};
+use super::{LONGEST_T, MOST_TASKS, Refused, Table, Task, WIDEST_K};
+use refusals::Refusal;
 
 fn times_hold(task: Task) -> bool
     ensures { result ≡ times_hold task }
 {
-    if task.c < 1 {
-        return false;
-    }
-    if task.d < task.c {
-        return false;
-    }
-    if task.t < task.d {
-        return false;
-    }
-    task.t <= LONGEST_T
+    1 <= task.c && task.c <= task.d && task.d <= task.t && task.t <= LONGEST_T
 }
 
 fn misses_hold(task: Task) -> bool
     ensures { result ≡ misses_hold task }
 {
-    if task.k < 1 {
-        return false;
-    }
-    if WIDEST_K < task.k {
-        return false;
-    }
-    if task.k <= task.m {
-        return false;
-    }
-    if task.m == 0 {
-        return task.k == 1;
-    }
-    true
+    1 <= task.k && task.k <= WIDEST_K && task.m < task.k && (task.m != 0 || task.k == 1)
 }
 
-// 0 where the task obeys the rules.
-pub fn judge_task(task: Task) -> u8
-    ensures { result ≡ task_fault task }
+// The times before the misses.
+#[tactic(auto, unfolding(crate::specs::Rules::task_fault))]
+pub fn judge_task(task: Task) -> Result<(), Refusal>
+    ensures { fault_in result ≡ task_fault task }
 {
-    if times_hold(task) {
-        if misses_hold(task) {
-            return 0;
-        }
-        return 4;
+    if !times_hold(task) {
+        return Err(Refusal::TaskTimes);
     }
-    3
+    if !misses_hold(task) {
+        return Err(Refusal::TaskMisses);
+    }
+    Ok(())
 }
 
-pub fn judge(table: Table) -> Answer
-    ensures { result ≡ judged table }
+#[tactic(auto, unfolding(crate::specs::Judging::judged, crate::specs::Judging::first_fault), using(crate::proofs::Faults::none_more))]
+pub fn judge(table: Table) -> Result<(), Refused>
+    ensures { as_answer result ≡ judged table }
 {
-    let count = table.count;
-    if count < 1 {
-        return Answer::Refused {
-            number: 1,
+    if !(1..=MOST_TASKS).contains(&table.count) {
+        return Err(Refused {
+            refusal: Refusal::TaskCount,
             position: 0,
-        };
+        });
     }
-    if MOST_TASKS < count {
-        return Answer::Refused {
-            number: 1,
-            position: 0,
-        };
-    }
-    let mut i: usize = 0;
-    while i < count {
-        let fault = judge_task(table.tasks[i]);
-        if fault != 0 {
-            return Answer::Refused {
-                number: fault,
-                position: i,
-            };
+    for position in 0..table.count {
+        if let Err(refusal) = judge_task(table.tasks[position]) {
+            return Err(Refused { refusal, position });
         }
-        i += 1;
     }
-    Answer::Accepted
+    Ok(())
 }

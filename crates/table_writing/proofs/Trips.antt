@@ -16,7 +16,7 @@ use Rattle.laws.proofs.Stores.{length_filled, filled_below, filled_past, filled_
 use Rattle.number_reading.specs.Words.{number}
 use Rattle.number_writing.specs.Bytes.{bytes}
 use Rattle.number_writing.proofs.Trips.{number_of-bytes, bytes_of_number}
-use Rattle.table_rules.specs.declared.Answer.TheVariants.{Accepted}
+use Rattle.table_rules.specs.Answers.{Accepted}
 use Rattle.table_rules.specs.declared.Task.{Task}
 use Rattle.table_rules.specs.declared.Table.{Table}
 use Rattle.table_rules.specs.Rules.{Times, task_fault, no_task}

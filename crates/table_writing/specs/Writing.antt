@@ -4,8 +4,8 @@ use Rattle.laws.specs.Stores.{filled}
 use Rattle.number_writing.specs.Bytes.{bytes}
 use Rattle.table_rules.specs.declared.Task.{Task}
 use Rattle.table_rules.specs.declared.Table.{Table}
-use Rattle.table_rules.specs.declared.Answer.{Answer}
-use Rattle.table_rules.specs.declared.Answer.TheVariants.{Accepted, Refused}
+use Rattle.table_rules.specs.Answers.{Answer}
+use Rattle.table_rules.specs.Answers.{Accepted, Refused}
 use Rattle.table_rules.specs.Limits.{place_count}
 use Rattle.table_rules.specs.Rules.{no_task}
 use Rattle.table_rules.specs.Judging.{judged}

@@ -20,7 +20,7 @@ use Rattle.task_steps.specs.Own.{reopened}
 use Rattle.state_rules.specs.declared.State.{State}
 use Rattle.state_rules.specs.State.{record_at}
 use Rattle.state_rules.specs.Sound.{StateSound}
-use Rattle.apply_events.specs.declared.Applied.{Applied}
+use Rattle.apply_events.specs.Answer.{Applied}
 use Rattle.apply_events.specs.Apply.{applied}
 use Rattle.apply_events.proofs.Happened.{Happened, refusal, acceptance, happened}
 use Rattle.run_histories.specs.History.{Job, accepts, closes, completes, closed_job}

@@ -8,8 +8,8 @@ use borrow.Author.Tests.{ne_eqb, le-ltb}
 use lib.ListN.{length, get_or, take, drop, length-append, length-drop, get_or-append}
 use lib.Seq.{take-append-le, drop-append-le, drop-drop, drop-append_seam}
 use Rattle.event_reading.specs.declared.Event.{Event}
-use Rattle.event_reading.specs.declared.Reading.{Reading}
-use Rattle.event_reading.specs.declared.Reading.TheVariants as R
+use Rattle.event_reading.specs.Reading.{Reading}
+use Rattle.event_reading.specs.Reading as R
 use Rattle.event_reading.specs.Record.{marks, event_of, read_record}
 use Rattle.event_logs.specs.Log.{readable, rest_of, events_of}
 use Rattle.event_logs.specs.Ending.{ended_by, ending_of}

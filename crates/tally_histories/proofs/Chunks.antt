@@ -9,8 +9,8 @@ use native.Mathlib.Omega.{arith}
 use borrow.Author.Tests.{ne_eqb}
 use lib.ListN.{length}
 use Rattle.event_reading.specs.declared.Event.{Event}
-use Rattle.event_logs.specs.declared.Ending.{Ending}
-use Rattle.event_logs.specs.declared.Ending.TheVariants as E
+use Rattle.event_logs.specs.Stops.{Ending}
+use Rattle.event_logs.specs.Stops as E
 use Rattle.event_logs.specs.Log.{readable, events_of}
 use Rattle.event_logs.specs.Ending.{ending_of}
 use Rattle.event_logs.proofs.Records.{readable-fits}
@@ -19,12 +19,12 @@ use Rattle.event_logs.proofs.Endings.{ending_whole}
 use Rattle.state_rules.specs.declared.State.{State}
 use Rattle.apply_events.specs.Apply.{applied}
 use Rattle.apply_events.specs.Log.{state_after}
-use Rattle.tally_rules.specs.declared.Answer.TheVariants.{Accepted}
 use Rattle.tally_rules.specs.declared.Tallies.{Tallies}
-use Rattle.tally_histories.specs.declared.Reported.{Reported}
+use Rattle.tally_rules.specs.Answer.{Accepted}
+use Rattle.tally_histories.specs.Answer.{Reported, withheld}
 use Rattle.tally_histories.specs.Events.{tallied, admits, tallies_after, all_admit}
 use Rattle.tally_histories.specs.Sound.{AllWhole, Beside}
-use Rattle.tally_histories.specs.Report.{withheld, given, fault_beside, tally_log, reported}
+use Rattle.tally_histories.specs.Report.{given, fault_beside, tally_log, reported}
 use Rattle.tally_histories.specs.Chunks.{shifted, behind, goes_on, in_two}
 use Rattle.tally_histories.proofs.Beside.{beside_none, none_beside}
 use Rattle.tally_histories.proofs.InOrder.{cond_on}

@@ -20,14 +20,14 @@ use Rattle.state_rules.specs.declared.State.{State}
 use Rattle.state_rules.specs.Sound.{state_holds}
 use Rattle.state_rules.proofs.Sounding.{state_tells}
 use Rattle.run_histories.specs.History.{run_state}
-use Rattle.tally_rules.specs.declared.Answer.TheVariants.{Accepted}
 use Rattle.tally_rules.specs.declared.Tally.{Tally}
 use Rattle.tally_rules.specs.declared.Tallies.{Tallies}
+use Rattle.tally_rules.specs.Answer.{Accepted}
+use Rattle.tally_histories.specs.Answer.{Reported, withheld}
 use Rattle.tally_rules.specs.Tally.{no_tally, tally_at}
-use Rattle.tally_histories.specs.declared.Reported.{Reported}
 use Rattle.tally_histories.specs.Events.{tallies_after, all_admit}
 use Rattle.tally_histories.specs.Sound.{AllWhole, Beside, tallies_hold, carried_by}
-use Rattle.tally_histories.specs.Report.{withheld, given, fault_beside, tally_log, reported}
+use Rattle.tally_histories.specs.Report.{given, fault_beside, tally_log, reported}
 use Rattle.tally_histories.specs.Responses.{tally_after, run_of, AllWithin}
 use Rattle.tally_histories.specs.Reports.{historied, Reports, unsound, unsound_tally, other_d, passes, reports}
 use Rattle.tally_histories.proofs.Beside.{tallies_tell, carried_tell, beside_none, rooms}

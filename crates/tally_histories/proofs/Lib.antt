@@ -1,4 +1,5 @@
 -- What is shown of a report.
+pub mod Answers
 pub mod Beside
 pub mod Added
 pub mod Runs

@@ -18,11 +18,10 @@ use Rattle.state_rules.specs.Sound.{StateSound}
 use Rattle.apply_events.specs.Apply.{applied}
 use Rattle.run_histories.specs.History.{Job, run_state, closes, closed_job, jobs_of}
 use Rattle.run_histories.proofs.Closes.{jobs_with}
-use Rattle.tally_rules.specs.declared.Answer.{Answer}
-use Rattle.tally_rules.specs.declared.Answer.TheVariants.{Accepted}
 use Rattle.tally_rules.specs.declared.Tally.{Tally}
-use Rattle.tally_rules.specs.declared.Tallied.{Tallied}
 use Rattle.tally_rules.specs.declared.Tallies.{Tallies}
+use Rattle.tally_rules.specs.Answer.{Answer, Accepted, Tallied}
+use Rattle.tally_histories.specs.Answer.{Reported}
 use Rattle.tally_rules.specs.Tally.{fresh_tally, tally_at, tally_over, tally_of}
 use Rattle.tally_rules.specs.Adding.{accepted}
 use Rattle.tally_rules.specs.Responses.{Within, UpTo}
@@ -32,7 +31,6 @@ use Rattle.tally_sums.specs.Joining.{both, joined}
 use Rattle.tally_sums.proofs.Joining.{joined_was}
 use Rattle.tally_sums.proofs.Orders.{both_either, join_either_way}
 use Rattle.tally_sums.proofs.Lists.{two_lists, lists_join}
-use Rattle.tally_histories.specs.declared.Reported.{Reported}
 use Rattle.tally_histories.specs.Sound.{deadline_at, fresh_tallies}
 use Rattle.tally_histories.specs.Responses.{responses_of, tally_after, run_of}
 use Rattle.tally_histories.specs.TwoLogs.{report_of, tally_in, BothReported, sum_of_both, AddUp}

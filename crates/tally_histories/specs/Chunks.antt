@@ -1,13 +1,12 @@
 -- A report over a log that comes in chunks: each chunk is reported from the state and the tallies that the chunks before it left.
 use Rattle.std.specs.Prelude.{ℕ, ◌+◌, List}
-use Rattle.event_logs.specs.declared.Ending.{Ending}
-use Rattle.event_logs.specs.declared.Ending.TheVariants as E
+use Rattle.event_logs.specs.Stops.{Ending}
+use Rattle.event_logs.specs.Stops as E
 use Rattle.state_rules.specs.declared.State.{State}
-use Rattle.tally_rules.specs.declared.Answer.{Answer}
-use Rattle.tally_rules.specs.declared.Answer.TheVariants.{Accepted, Refused}
 use Rattle.tally_rules.specs.declared.Tallies.{Tallies}
-use Rattle.tally_histories.specs.declared.Reported.{Reported}
-use Rattle.tally_histories.specs.Report.{withheld, reported}
+use Rattle.tally_rules.specs.Answer.{Answer, Accepted, Refused}
+use Rattle.tally_histories.specs.Answer.{Reported, withheld}
+use Rattle.tally_histories.specs.Report.{reported}
 
 -- an offset counts from the first byte of the whole log
 abbrev pub shifted : ℕ → Ending → Ending

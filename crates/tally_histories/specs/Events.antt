@@ -5,7 +5,7 @@ use Rattle.event_reading.specs.Event.{a_completion}
 use Rattle.task_records.specs.declared.Record.{Record}
 use Rattle.state_rules.specs.declared.State.{State}
 use Rattle.state_rules.specs.State.{record_at}
-use Rattle.apply_events.specs.declared.Answer.{Answer}
+use Rattle.apply_events.specs.Answer.{Answer}
 use Rattle.apply_events.specs.Apply.{applied}
 use Rattle.run_histories.specs.History.{accepts}
 use Rattle.tally_rules.specs.declared.Tallies.{Tallies}

@@ -1,4 +1,5 @@
 -- What a reader has to believe of a report.
+pub mod Answer
 pub mod Events
 pub mod Sound
 pub mod Report

@@ -1,20 +1,15 @@
 -- Rules, "Tally": what a report over a log answers; 15, then 16, and then the state and the tallies after all events that read.
 use Rattle.std.specs.Prelude.{ℕ, cond, List, eqb}
-use Rattle.event_logs.specs.declared.Ending.TheVariants as E
 use Rattle.event_logs.specs.Log.{events_of}
 use Rattle.event_logs.specs.Ending.{ending_of}
 use Rattle.state_rules.specs.declared.State.{State}
 use Rattle.state_rules.specs.Sound.{state_holds}
 use Rattle.apply_events.specs.Log.{state_after}
-use Rattle.tally_rules.specs.declared.Answer.TheVariants.{Accepted, Refused}
 use Rattle.tally_rules.specs.declared.Tallies.{Tallies}
-use Rattle.tally_histories.specs.declared.Reported.{Reported}
+use Rattle.tally_rules.specs.Answer.{Accepted}
+use Rattle.tally_histories.specs.Answer.{Reported, withheld}
 use Rattle.tally_histories.specs.Events.{tallies_after, all_admit}
 use Rattle.tally_histories.specs.Sound.{tallies_hold, carried_by}
-
--- a refused report gives back what it was given; nothing of the log counts as read
-abbrev pub withheld : State → Tallies → ℕ → Reported
-withheld s ts n = record { answer = Refused n; state = s; tallies = ts; ending = E.Stopped n 0 }
 
 -- the state and the tallies after all events that read, and what ended the reading
 abbrev pub given : State → Tallies → List ℕ → Reported

@@ -5,11 +5,10 @@ use Rattle.event_logs.specs.Ending.{ending_of}
 use Rattle.state_rules.specs.declared.State.{State}
 use Rattle.state_rules.specs.Sound.{StateSound}
 use Rattle.run_histories.specs.History.{run_state}
-use Rattle.tally_rules.specs.declared.Answer.TheVariants.{Accepted}
 use Rattle.tally_rules.specs.declared.Tallies.{Tallies}
-use Rattle.tally_histories.specs.declared.Reported.{Reported}
+use Rattle.tally_rules.specs.Answer.{Accepted}
+use Rattle.tally_histories.specs.Answer.{Reported, withheld}
 use Rattle.tally_histories.specs.Sound.{TalliesSound, Carried, Beside}
-use Rattle.tally_histories.specs.Report.{withheld}
 use Rattle.tally_histories.specs.Responses.{tally_after, run_of, AllWithin}
 
 -- each task's tally with the responses of the met jobs of the log's history; places past the last task stay

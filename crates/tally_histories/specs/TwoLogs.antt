@@ -1,15 +1,14 @@
 -- Rules, "Tally": the tallies of two logs of the same tasks add up to one.
 use Rattle.std.specs.Prelude.{ℕ, ◌<◌, ◌≡◌, List, ◌++◌, ◌↔◌}
-use Rattle.event_logs.specs.declared.Ending.TheVariants as E
+use Rattle.event_logs.specs.Stops as E
 use Rattle.state_rules.specs.declared.State.{State}
 use Rattle.state_rules.specs.Sound.{StateSound}
-use Rattle.tally_rules.specs.declared.Answer.TheVariants.{Accepted}
 use Rattle.tally_rules.specs.declared.Tally.{Tally}
-use Rattle.tally_rules.specs.declared.Tallied.{Tallied}
+use Rattle.tally_rules.specs.Answer.{Accepted, Tallied}
+use Rattle.tally_histories.specs.Answer.{Reported}
 use Rattle.tally_rules.specs.Tally.{tally_at}
 use Rattle.tally_rules.specs.Adding.{accepted}
 use Rattle.tally_sums.specs.Joining.{joined}
-use Rattle.tally_histories.specs.declared.Reported.{Reported}
 use Rattle.tally_histories.specs.Sound.{fresh_tallies}
 use Rattle.tally_histories.specs.Report.{reported}
 

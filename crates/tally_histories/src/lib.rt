@@ -1,15 +1,14 @@
 // The tallies of a log's responses: what a report answers. No code but this type: the rest stands in specs/ and proofs/.
 #![tactic(auto)]
 
-use event_logs::Ending;
+use event_logs::Stop;
 use state_rules::State;
 use tally_rules::Tallies;
 
-// The state and the tallies beside the answer, as given where the report is refused; and what ended the reading.
-#[derive(Clone, Copy)]
+// The state and the tallies after all events that read, and what ended the reading.
+#[derive(Clone, Copy, Debug, PartialEq, Eq)]
 pub struct Reported {
-    pub answer: tally_rules::Answer,
     pub state: State,
     pub tallies: Tallies,
-    pub ending: Ending,
+    pub ending: Result<(), Stop>,
 }

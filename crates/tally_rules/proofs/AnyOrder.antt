@@ -6,8 +6,8 @@ use native.Mathlib.Decide.{ℕ_discrete}
 use native.Mathlib.Omega.{arith}
 use lib.ListN.{get_or, set}
 use lib.Seq.{get_or-set_other, set_comm}
+use Rattle.std.specs.Prelude.{Option, None, Some}
 use Rattle.tally_rules.specs.declared.Span.{Span}
-use Rattle.tally_rules.specs.declared.Span.TheVariants.{Absent, Between}
 use Rattle.tally_rules.specs.declared.Tally.{Tally}
 use Rattle.tally_rules.specs.Tally.{cell_of, widened, taken, tally_over}
 use Rattle.tally_rules.specs.Adding.{accepted, added}
@@ -37,12 +37,12 @@ min_either_way a r q = omega arith
 max_either_way : (a r q : ℕ) → max (max a r) q ≡ max (max a q) r
 max_either_way a r q = omega arith
 
-widened_either_way : (s : Span) (r q : ℕ) → widened (widened s r) q ≡ widened (widened s q) r
-widened_either_way Absent r q =
+widened_either_way : (s : Option Span) (r q : ℕ) → widened (widened s r) q ≡ widened (widened s q) r
+widened_either_way None r q =
     let a : min r q ≡ min q r = omega arith in
     let b : max r q ≡ max q r = omega arith in
     rw (a, b)
-widened_either_way (Between least most) r q = rw (min_either_way least r q, max_either_way most r q)
+widened_either_way (Some s) r q = rw (min_either_way s.least r q, max_either_way s.most r q)
 
 pub taken_either_way : (t : Tally) (r q : ℕ) → taken (taken t r) q ≡ taken (taken t q) r
 unfolding taken

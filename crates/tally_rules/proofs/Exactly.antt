@@ -7,11 +7,10 @@ use native.Mathlib.Decide.{dec_lt}
 use native.Mathlib.Omega.{arith}
 use Rattle.laws.proofs.Answers.{exactly}
 use Rattle.laws.proofs.Tests.{tells_true, tells_false, impossible}
-use Rattle.tally_rules.specs.declared.Answer.TheVariants.{Accepted, Refused}
 use Rattle.tally_rules.specs.declared.Tally.{Tally}
-use Rattle.tally_rules.specs.declared.Tallied.{Tallied}
 use Rattle.tally_rules.specs.Tally.{most_tallied, cell_of, cell_at, taken}
 use Rattle.tally_rules.specs.Sound.{TallySound, tally_holds}
+use Rattle.tally_rules.specs.Answer.{Accepted, Refused, Tallied}
 use Rattle.tally_rules.specs.Adding.{kept, accepted, fits, put_in, added, Adds, unsound, refused, takes}
 use Rattle.tally_rules.specs.Responses.{Whole}
 use Rattle.tally_rules.proofs.Telling.{tally_tells}

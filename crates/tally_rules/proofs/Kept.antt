@@ -1,13 +1,13 @@
 -- A response that fits leaves a sound tally sound, and a fresh tally is sound: clause by clause.
-use Prim.Native.Nat.{ℕ, ◌+◌, ◌≤◌, ◌<◌, min, max}
+use Prim.Native.Nat.{ℕ, ◌+◌, ◌≤◌, ◌<◌}
 use mathlib.Core.Path.{◌≡◌, refl, ap, ◌∙◌}
 use mathlib.Core.Bool.{true}
 use native.Mathlib.Omega.{arith}
 use lib.ListN.{length-replicate, get_or-replicate}
+use Rattle.std.specs.Prelude.{Option, None, Some}
 use Rattle.laws.proofs.Sums.{total_zero}
 use Rattle.table_rules.specs.Limits.{longest_t}
 use Rattle.tally_rules.specs.declared.Span.{Span}
-use Rattle.tally_rules.specs.declared.Span.TheVariants.{Absent, Between}
 use Rattle.tally_rules.specs.declared.Tally.{Tally}
 use Rattle.tally_rules.specs.Tally.{cell_count, cell_at, fresh_tally, widened, taken}
 use Rattle.tally_rules.specs.Sound.{Spans, none, some, TallySound}
@@ -20,10 +20,10 @@ use Rattle.tally_rules.proofs.Fitting.{fits-room, fits_within}
 pub sound_within : (t : Tally) → TallySound t → Within t
 sound_within t s = record { sum = s.sum; cells = s.cells }
 
-span-widened : (d met sum r : ℕ) (s : Span) → r ≤ d → Spans d met sum s → Spans d (met + 1) (sum + r) (widened s r)
-span-widened d met sum r Absent h (none p q) = some {least = r} {most = r} (omega arith) (omega arith) h
-span-widened d met sum r (Between least most) h (some p q m) =
-    some {least = min least r} {most = max most r} (omega arith) (omega arith) (omega arith)
+span-widened : (d met sum r : ℕ) (s : Option Span) → r ≤ d → Spans d met sum s → Spans d (met + 1) (sum + r) (widened s r)
+span-widened d met sum r None h (none p q) = some (omega arith) (omega arith) h
+span-widened d met sum r (Some s) h (some p q m) =
+    some (omega arith) (omega arith) (omega arith)
 
 pub taken_sound : (t : Tally) (r : ℕ) → Whole t → TallySound t → fits t r ≡ true → TallySound (taken t r)
 unfolding taken

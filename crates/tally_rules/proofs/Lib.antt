@@ -1,4 +1,5 @@
 -- What is shown of a tally beside the functions' contracts.
+pub mod Answers
 pub mod Cells
 pub mod Telling
 pub mod Taking

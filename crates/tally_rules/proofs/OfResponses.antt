@@ -8,8 +8,8 @@ use native.Mathlib.Omega.{arith}
 use lib.ListN.{length}
 use Rattle.laws.specs.Sums.{total}
 use Rattle.laws.proofs.Sums.{total_zero}
+use Rattle.std.specs.Prelude.{Option, None, Some}
 use Rattle.tally_rules.specs.declared.Span.{Span}
-use Rattle.tally_rules.specs.declared.Span.TheVariants.{Absent, Between}
 use Rattle.tally_rules.specs.Tally.{cell_count, cell_at, fresh_tally, widened, taken, tally_over, tally_of}
 use Rattle.tally_rules.specs.Responses.{UpTo, count_in, sum_of, Among, here, later, SpanOf, empty, between}
 use Rattle.tally_rules.proofs.Kept.{fresh_whole, fresh_cell}
@@ -29,23 +29,23 @@ module _ (d : ℕ) (rs : List ℕ) where
   cells_met u = omega (arith, over_total (fresh_tally d) (fresh_whole d) rs u, total_zero (cell_at (fresh_tally d)) cell_count (fresh_cell d))
 
 -- the least and the most of a list with one response more
-span_more : (r : ℕ) (rs : List ℕ) (s : Span) → SpanOf rs s → SpanOf (r ∷ rs) (widened s r)
-span_more r rs Absent empty = between here here only
+span_more : (r : ℕ) (rs : List ℕ) (s : Option Span) → SpanOf rs s → SpanOf (r ∷ rs) (widened s r)
+span_more r rs None empty = between here here only
   where
     only : (q : ℕ) → Among q (r ∷ []) → (r ≤ q) × (q ≤ r)
     only q here = (omega arith, omega arith)
     only q (later m) = elim m [ ]
-span_more r rs (Between least most) (between a b h) = between (low (dec_le least r)) (high (dec_le r most)) each
+span_more r rs (Some s) (between a b h) = between (low (dec_le s.least r)) (high (dec_le r s.most)) each
   where
-    low : Dec (least ≤ r) → Among (min least r) (r ∷ rs)
-    low (yes p) = let e : min least r ≡ least = omega arith in rw e (later a)
-    low (no n) = let e : min least r ≡ r = omega arith in rw e here
+    low : Dec (s.least ≤ r) → Among (min s.least r) (r ∷ rs)
+    low (yes p) = let e : min s.least r ≡ s.least = omega arith in rw e (later a)
+    low (no n) = let e : min s.least r ≡ r = omega arith in rw e here
 
-    high : Dec (r ≤ most) → Among (max most r) (r ∷ rs)
-    high (yes p) = let e : max most r ≡ most = omega arith in rw e (later b)
-    high (no n) = let e : max most r ≡ r = omega arith in rw e here
+    high : Dec (r ≤ s.most) → Among (max s.most r) (r ∷ rs)
+    high (yes p) = let e : max s.most r ≡ s.most = omega arith in rw e (later b)
+    high (no n) = let e : max s.most r ≡ r = omega arith in rw e here
 
-    each : (q : ℕ) → Among q (r ∷ rs) → (min least r ≤ q) × (q ≤ max most r)
+    each : (q : ℕ) → Among q (r ∷ rs) → (min s.least r ≤ q) × (q ≤ max s.most r)
     each q here = (omega arith, omega arith)
     each q (later m) = (omega (arith, (h q m).0), omega (arith, (h q m).1))
 

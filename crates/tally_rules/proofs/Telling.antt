@@ -9,33 +9,33 @@ use native.Mathlib.Omega.{arith}
 use borrow.Author.Tests.{le-leb, leb-true, eq-eqb, ne_eqb, eqb-true, eqb-false}
 use lib.Dec.{leb, eqb}
 use lib.ListN.{get_or}
+use Rattle.std.specs.Prelude.{Option, None, Some}
 use Rattle.laws.specs.Sums.{total}
 use Rattle.laws.proofs.Sums.{total_small}
 use Rattle.laws.proofs.Tests.{Tells, tells, each_holds, both_hold, both_true, impossible}
 use Rattle.table_rules.specs.Limits.{longest_t}
 use Rattle.tally_rules.specs.declared.Span.{Span}
-use Rattle.tally_rules.specs.declared.Span.TheVariants.{Absent, Between}
 use Rattle.tally_rules.specs.declared.Tally.{Tally}
 use Rattle.tally_rules.specs.Tally.{cell_count, most_tallied, cell_at}
 use Rattle.tally_rules.specs.Sound.{Spans, none, some, TallySound, span_holds, cells_within, cells_hold, tally_holds}
 
-span_held : (s : Span) (d met sum : ℕ) → span_holds s d met sum ≡ true → Spans d met sum s
-span_held Absent d met sum e =
+span_held : (s : Option Span) (d met sum : ℕ) → span_holds s d met sum ≡ true → Spans d met sum s
+span_held None d met sum e =
     let b = both_hold (eqb met 0) (eqb sum 0) e in
     none (eqb-true met 0 b.0) (eqb-true sum 0 b.1)
-span_held (Between least most) d met sum e = go (eqb met 0) refl e
+span_held (Some s) d met sum e = go (eqb met 0) refl e
   where
-    go : (b : Bool) → eqb met 0 ≡ b → cond b false (cond (leb most d) (leb least most) false) ≡ true → Spans d met sum (Between least most)
+    go : (b : Bool) → eqb met 0 ≡ b → cond b false (cond (leb s.most d) (leb s.least s.most) false) ≡ true → Spans d met sum (Some s)
     go true q f = impossible cc
     go false q f =
-        let b = both_hold (leb most d) (leb least most) f in
+        let b = both_hold (leb s.most d) (leb s.least s.most) f in
         let n = eqb-false met 0 q in
-        some (omega (arith, n)) (leb-true least most b.1) (leb-true most d b.0)
+        some (omega (arith, n)) (leb-true s.least s.most b.1) (leb-true s.most d b.0)
 
-span_holding : (s : Span) (d met sum : ℕ) → Spans d met sum s → span_holds s d met sum ≡ true
-span_holding Absent d met sum (none p q) = both_true (eqb met 0) (eqb sum 0) (eq-eqb met 0 p) (eq-eqb sum 0 q)
-span_holding (Between least most) d met sum (some p q r) =
-    rw (ne_eqb met 0 (λ z. omega arith)) (both_true (leb most d) (leb least most) (le-leb most d r) (le-leb least most q))
+span_holding : (s : Option Span) (d met sum : ℕ) → Spans d met sum s → span_holds s d met sum ≡ true
+span_holding None d met sum (none p q) = both_true (eqb met 0) (eqb sum 0) (eq-eqb met 0 p) (eq-eqb sum 0 q)
+span_holding (Some s) d met sum (some p q r) =
+    rw (ne_eqb met 0 (λ z. omega arith)) (both_true (leb s.most d) (leb s.least s.most) (le-leb s.most d r) (le-leb s.least s.most q))
 
 -- the first n cells
 pub within_held : (l : List ℕ) (n : ℕ) → cells_within l n ≡ true → (c : ℕ) → c < n → get_or l c 0 ≤ most_tallied
@@ -63,7 +63,7 @@ within_fails l n i h p = go (cells_within l n) refl
     go true e = absurd (omega (arith, within_held l n e i h))
 
 module _ (t : Tally) where
-  holds_sound : tally_holds t ≡ true → TallySound t
+  pub holds_sound : tally_holds t ≡ true → TallySound t
   unfolding tally_holds
   holds_sound e =
       let f = each_holds (leb 1 t.d ∷ leb t.d longest_t ∷ leb t.sum most_tallied ∷ span_holds t.span t.d t.met t.sum

@@ -2,9 +2,8 @@
 use Prim.Native.Nat.{ℕ}
 use mathlib.Core.Path.{◌≡◌, refl}
 use mathlib.Core.List.{List, [], ◌∷◌}
-use Rattle.tally_rules.specs.declared.Span.TheVariants.{Between}
 use Rattle.tally_rules.specs.declared.Tally.{Tally}
-use Rattle.tally_rules.specs.Tally.{cell_of, cell_at, taken, tally_over, tally_of}
+use Rattle.tally_rules.specs.Tally.{cell_of, cell_at, between, taken, tally_over, tally_of}
 
 -- the cells of the responses 0, 1 and d
 abbrev ends : ℕ → List ℕ
@@ -31,6 +30,6 @@ pub of_three : cell_at three 15 ∷ cell_at three 3 ∷ three.met ∷ three.sum 
 unfolding tally_over taken
 of_three = refl
 
-pub span-of_three : three.span ≡ Between 3 12
+pub span-of_three : three.span ≡ between 3 12
 unfolding tally_over taken
 span-of_three = refl

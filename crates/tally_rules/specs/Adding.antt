@@ -1,11 +1,10 @@
 -- Rules, "Tally": adding one response; 15, then 16, and then the tally with it.
 use Rattle.std.specs.Prelude.{ℕ, ◌+◌, ◌≤◌, ◌<◌, Bool, cond, ◌⊎◌, [], ◌∷◌, leb, ltb}
 use Rattle.laws.specs.Tests.{all_of}
-use Rattle.tally_rules.specs.declared.Answer.TheVariants.{Accepted, Refused}
 use Rattle.tally_rules.specs.declared.Tally.{Tally}
-use Rattle.tally_rules.specs.declared.Tallied.{Tallied}
 use Rattle.tally_rules.specs.Tally.{most_tallied, cell_of, cell_at, taken}
 use Rattle.tally_rules.specs.Sound.{TallySound, tally_holds}
+use Rattle.tally_rules.specs.Answer.{Accepted, Refused, Tallied}
 
 -- the tally as given
 abbrev pub kept : Tally → ℕ → Tallied

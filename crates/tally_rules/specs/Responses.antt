@@ -1,8 +1,7 @@
 -- Rules, "Tally": what a tally is of a list of responses: how many fell into each cell, the least and the most, the sum, in any order.
-use Rattle.std.specs.Prelude.{ℕ, ◌+◌, ◌≤◌, ◌<◌, ◌≡◌, List, [], ◌∷◌, eqb, length}
+use Rattle.std.specs.Prelude.{Option, None, Some, ℕ, ◌+◌, ◌≤◌, ◌<◌, ◌≡◌, List, [], ◌∷◌, eqb, length}
 use Rattle.laws.specs.Numbers.{one_if}
 use Rattle.tally_rules.specs.declared.Span.{Span}
-use Rattle.tally_rules.specs.declared.Span.TheVariants.{Absent, Between}
 use Rattle.tally_rules.specs.declared.Tally.{Tally}
 use Rattle.tally_rules.specs.Tally.{cell_count, most_tallied, cell_of, cell_at}
 use Rattle.tally_rules.specs.Adding.{accepted, added}
@@ -35,10 +34,9 @@ pub data Among (r : ℕ) : List ℕ → Type 0 where
   later : {q : ℕ} {rs : List ℕ} → Among r rs → Among r (q ∷ rs)
 
 -- the least and the most of the list, absent where it is empty
-pub data SpanOf : List ℕ → Span → Type 0 where
-  empty : SpanOf [] Absent
-  between : {rs : List ℕ} {least most : ℕ} → Among least rs → Among most rs → ((r : ℕ) → Among r rs → (least ≤ r) × (r ≤ most))
-      → SpanOf rs (Between least most)
+pub data SpanOf : List ℕ → Option Span → Type 0 where
+  empty : SpanOf [] None
+  between : {rs : List ℕ} {s : Span} → Among s.least rs → Among s.most rs → ((r : ℕ) → Among r rs → (s.least ≤ r) × (r ≤ s.most)) → SpanOf rs (Some s)
 
 -- the same responses in another order
 pub data Shuffled : List ℕ → List ℕ → Type 0 where

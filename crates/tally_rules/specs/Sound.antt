@@ -1,18 +1,17 @@
 -- Rules, "Tally": when a tally is sound.
-use Rattle.std.specs.Prelude.{ℕ, zero, suc, ◌≤◌, ◌<◌, ◌≡◌, Bool, true, false, cond, List, [], ◌∷◌, leb, eqb, get_or}
+use Rattle.std.specs.Prelude.{Option, None, Some, ℕ, zero, suc, ◌≤◌, ◌<◌, ◌≡◌, Bool, true, false, cond, List, [], ◌∷◌, leb, eqb, get_or}
 use Rattle.laws.specs.Sums.{total}
 use Rattle.laws.specs.Tests.{all_of}
 use Rattle.table_rules.specs.Limits.{longest_t}
 use Rattle.tally_rules.specs.declared.Span.{Span}
-use Rattle.tally_rules.specs.declared.Span.TheVariants.{Absent, Between}
 use Rattle.tally_rules.specs.declared.Tally.{Tally}
 use Rattle.tally_rules.specs.Tally.{cell_count, most_tallied, cell_at}
 
 -- the least and the most beside D, the jobs met and the sum
-pub data Spans (d met sum : ℕ) : Span → Type 0 where
+pub data Spans (d met sum : ℕ) : Option Span → Type 0 where
   -- while nothing was met, both are absent and nothing was added up
-  none : met ≡ 0 → sum ≡ 0 → Spans d met sum Absent
-  some : {least most : ℕ} → 1 ≤ met → least ≤ most → most ≤ d → Spans d met sum (Between least most)
+  none : met ≡ 0 → sum ≡ 0 → Spans d met sum None
+  some : {s : Span} → 1 ≤ met → s.least ≤ s.most → s.most ≤ d → Spans d met sum (Some s)
 
 pub record TallySound (t : Tally) : Type 0 where
   pub some : 1 ≤ t.d
@@ -24,9 +23,9 @@ pub record TallySound (t : Tally) : Type 0 where
   pub met : total (cell_at t) cell_count ≡ t.met
 
 -- the same as tests
-abbrev pub span_holds : Span → ℕ → ℕ → ℕ → Bool
-span_holds Absent d met sum = cond (eqb met 0) (eqb sum 0) false
-span_holds (Between least most) d met sum = cond (eqb met 0) false (cond (leb most d) (leb least most) false)
+abbrev pub span_holds : Option Span → ℕ → ℕ → ℕ → Bool
+span_holds None d met sum = cond (eqb met 0) (eqb sum 0) false
+span_holds (Some s) d met sum = cond (eqb met 0) false (cond (leb s.most d) (leb s.least s.most) false)
 
 -- the first n cells are within their limit
 unfoldable pub cells_within : List ℕ → ℕ → Bool

@@ -1,7 +1,6 @@
 -- Rules, "Tally": a tally of responses, and what one response more makes of it.
-use Rattle.std.specs.Prelude.{ℕ, ◌+◌, ◌*◌, ◌/◌, min, max, List, [], ◌∷◌, get_or, set, replicate}
+use Rattle.std.specs.Prelude.{Option, None, Some, ℕ, ◌+◌, ◌*◌, ◌/◌, min, max, List, [], ◌∷◌, get_or, set, replicate}
 use Rattle.tally_rules.specs.declared.Span.{Span}
-use Rattle.tally_rules.specs.declared.Span.TheVariants.{Absent, Between}
 use Rattle.tally_rules.specs.declared.Tally.{Tally}
 use Rattle.tally_rules.specs.declared.Tallies.{Tallies}
 
@@ -20,19 +19,22 @@ abbrev pub cell_at : Tally → ℕ → ℕ
 cell_at t c = get_or t.cells c 0
 
 abbrev pub fresh_tally : ℕ → Tally
-fresh_tally d = record { d = d; cells = replicate cell_count 0; met = 0; span = Absent; sum = 0 }
+fresh_tally d = record { d = d; cells = replicate cell_count 0; met = 0; span = None; sum = 0 }
 
 -- a place that holds no tally
 abbrev pub no_tally : Tally
-no_tally = record { d = 0; cells = []; met = 0; span = Absent; sum = 0 }
+no_tally = record { d = 0; cells = []; met = 0; span = None; sum = 0 }
 
 abbrev pub tally_at : Tallies → ℕ → Tally
 tally_at ts i = get_or ts.row i no_tally
 
+abbrev pub between : ℕ → ℕ → Option Span
+between least most = Some (record { least = least; most = most })
+
 -- the least and the most, with r among them
-abbrev pub widened : Span → ℕ → Span
-widened Absent r = Between r r
-widened (Between least most) r = Between (min least r) (max most r)
+abbrev pub widened : Option Span → ℕ → Option Span
+widened None r = between r r
+widened (Some s) r = between (min s.least r) (max s.most r)
 
 -- a met job with response r
 unfoldable pub taken : Tally → ℕ → Tally

@@ -15,52 +15,39 @@ pub const CELLS: usize = 128;
 // The largest sum of responses, and the largest count of a cell.
 pub const MOST_TALLIED: u64 = 1000000000000000;
 
-// The least and the most response. While nothing was met there is none, so that none can be read as 0.
-#[derive(Clone, Copy)]
-pub enum Span {
-    Absent,
-    Between { least: u32, most: u32 },
+// The least and the most response.
+#[derive(Clone, Copy, Debug, PartialEq, Eq)]
+pub struct Span {
+    pub least: u32,
+    pub most: u32,
 }
 
 // The responses of one task's met jobs: D of the task, how many fell into each cell, how many there were, the least and the most, and their sum.
-#[derive(Clone, Copy)]
+#[derive(Clone, Copy, Debug, PartialEq, Eq)]
 pub struct Tally {
     pub d: u32,
     pub cells: [u64; CELLS],
     pub met: u64,
-    pub span: Span,
+    // While nothing was met there is none, so that none can be read as 0.
+    pub span: Option<Span>,
     pub sum: u64,
 }
 
-#[derive(Clone, Copy)]
-pub enum Answer {
-    Accepted,
-    Refused(u8),
-}
-
 // The tallies of a state's tasks, each at its task's place.
-#[derive(Clone, Copy)]
+#[derive(Clone, Copy, Debug, PartialEq, Eq)]
 pub struct Tallies {
     pub row: [Tally; PLACES],
-}
-
-// The tally beside the answer: as given where it is refused.
-#[derive(Clone, Copy)]
-pub struct Tallied {
-    pub answer: Answer,
-    pub tally: Tally,
 }
 
 // Of a task with this D, while nothing was met.
 pub fn fresh(d: u32) -> Tally
     ensures { result ≡ fresh_tally d }
 {
-    let cells = [0u64; CELLS];
     Tally {
-        d: d,
-        cells: cells,
+        d,
+        cells: [0; CELLS],
         met: 0,
-        span: Span::Absent,
+        span: None,
         sum: 0,
     }
 }

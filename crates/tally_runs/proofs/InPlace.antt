@@ -13,16 +13,16 @@ use Rattle.event_reading.specs.declared.Event.{Event}
 use Rattle.event_reading.specs.Event.{a_completion}
 use Rattle.task_records.specs.declared.Record.{Record}
 use Rattle.task_steps.specs.Opening.{expired, no_record}
-use Rattle.state_choice.specs.declared.Best.{Best}
+use Rattle.state_choice.specs.Best.{Best}
 use Rattle.state_rules.specs.declared.State.{State}
 use Rattle.state_rules.specs.State.{record_at}
 use Rattle.state_rules.specs.Sound.{StateSound}
-use Rattle.apply_ruling.specs.declared.Ruling.{Ruling}
+use Rattle.apply_ruling.specs.Answer.{Ruling}
 use Rattle.apply_ruling.specs.Ruling.{seat_of, ruled}
 use Rattle.apply_ruling.proofs.Seats.{seat_is, ruled_takes, same_number}
 use mathlib.Core.Bool.{cond}
-use Rattle.apply_events.specs.declared.Answer.TheVariants.{Run, Idle}
-use Rattle.apply_events.specs.declared.Applied.{Applied}
+use Rattle.apply_events.specs.Answer.{Run, Idle}
+use Rattle.apply_events.specs.Answer.{Applied}
 use Rattle.apply_events.specs.Steps.{expired_all}
 use Rattle.apply_events.specs.Apply.{told_of, applied}
 use Rattle.apply_events.proofs.Places.{places}

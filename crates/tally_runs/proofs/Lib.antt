@@ -1,4 +1,6 @@
--- What `tally_log` goes by.
-pub mod InPlace
+-- What the functions of the report go by.
+pub mod Listed
+pub mod Acted
 pub mod Stepped
 pub mod Tallying
+pub mod InPlace

@@ -9,9 +9,8 @@ use lib.Seq.{get_or-set_same, get_or-set_other}
 use Rattle.laws.proofs.Tests.{impossible}
 use Rattle.event_reading.specs.declared.Event.{Event}
 use Rattle.state_rules.specs.declared.State.{State}
-use Rattle.tally_rules.specs.declared.Answer.TheVariants.{Accepted, Refused}
+use Rattle.tally_rules.specs.Answer.{Accepted, Refused, Tallied}
 use Rattle.tally_rules.specs.declared.Tally.{Tally}
-use Rattle.tally_rules.specs.declared.Tallied.{Tallied}
 use Rattle.tally_rules.specs.declared.Tallies.{Tallies}
 use Rattle.tally_rules.specs.Tally.{cell_count, cell_of, cell_at, no_tally, tally_at, taken}
 use Rattle.tally_rules.specs.Sound.{TallySound}
@@ -49,6 +48,14 @@ module _ (t : Tally) (r : ℕ) (x : Tallied) (p : x ≡ put_in t r) where
       let e = put_tally q in
       let w = sym (length-set t.cells (cell_of t.d r) (cell_at t (cell_of t.d r) + 1)) ∙ sym (ap (λ (y : Tally). length y.cells) e) ∙ l in
       subst TallySound (sym e) (taken_sound t r w s (put-fits q))
+
+-- what is refused is refused by 16
+pub put_number : (t : Tally) (r n : ℕ) → kept t n ≡ put_in t r → n ≡ 16
+put_number t r n p = go (fits t r) refl
+  where
+    go : (b : Bool) → fits t r ≡ b → n ≡ 16
+    go true e = let z : Refused n ≡ Accepted = ap (λ (x : Tallied). x.answer) (rw e at p) in impossible cc
+    go false e = let z : Refused n ≡ Refused 16 = ap (λ (x : Tallied). x.answer) (rw e at p) in cc
 
 -- ---- all of them
 

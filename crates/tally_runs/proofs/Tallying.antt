@@ -6,7 +6,7 @@ use mathlib.Core.List.{List}
 use native.Mathlib.Omega.{arith}
 use lib.ListN.{drop}
 use Rattle.event_reading.specs.declared.Event.{Event}
-use Rattle.event_reading.specs.declared.Reading.TheVariants as R
+use Rattle.event_reading.specs.Reading as R
 use Rattle.event_reading.specs.Record.{read_record}
 use Rattle.event_logs.specs.Log.{events_of}
 use Rattle.event_logs.specs.Ending.{ending_at}
@@ -19,12 +19,12 @@ use Rattle.apply_events.specs.Apply.{applied}
 use Rattle.apply_events.specs.Log.{state_after}
 use Rattle.apply_events.proofs.Frame.{count_stays}
 use Rattle.apply_events.proofs.Kept.{applied_sound}
-use Rattle.tally_rules.specs.declared.Answer.TheVariants.{Accepted}
+use Rattle.tally_rules.specs.Answer.{Accepted}
 use Rattle.tally_rules.specs.declared.Tallies.{Tallies}
-use Rattle.tally_histories.specs.declared.Reported.{Reported}
+use Rattle.tally_histories.specs.Answer.{Reported, withheld}
 use Rattle.tally_histories.specs.Events.{admits, tallies_after, all_admit}
 use Rattle.tally_histories.specs.Sound.{TalliesSound, Beside}
-use Rattle.tally_histories.specs.Report.{withheld, tally_log}
+use Rattle.tally_histories.specs.Report.{tally_log}
 use Rattle.tally_runs.proofs.Stepped.{Stepped}
 
 -- what is held between two events

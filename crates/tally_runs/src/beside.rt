@@ -1,9 +1,11 @@
 // What is asked before a log is read: a sound state, sound tallies of its tasks, and each with its task's D.
 ghost use Rattle.std.specs.Prelude.{◌≡◌, ◌≤◌};
+ghost use Rattle.refusals.specs.Numbers.{fault_in};
 ghost use Rattle.table_rules.specs.Limits.{place_count};
 ghost use Rattle.tally_histories.specs.Sound.{tallies_hold, carried_by};
 ghost use Rattle.tally_histories.specs.Report.{fault_beside};
 
+use refusals::Refusal;
 use state_rules::State;
 use state_rules::sound::is_sound;
 use tally_rules::Tallies;
@@ -12,45 +14,31 @@ fn tallies_hold(tallies: Tallies, count: usize) -> bool
     requires { count ≤ place_count }
     ensures { result ≡ tallies_hold tallies count }
 {
-    let mut i: usize = 0;
-    while i < count {
-        if tally_rules::soundness::is_sound(tallies.row[i]) {
-            i += 1;
-        } else {
-            return false;
-        }
-    }
-    true
+    tallies.row[..count]
+        .iter()
+        .all(|tally| tally_rules::soundness::is_sound(*tally))
 }
 
 fn carried(state: State, tallies: Tallies) -> bool
     requires { state.count ≤ place_count }
     ensures { result ≡ carried_by state tallies state.count }
 {
-    let count = state.count;
-    let mut i: usize = 0;
-    while i < count {
-        if tallies.row[i].d == state.records[i].task.d {
-            i += 1;
-        } else {
-            return false;
-        }
-    }
-    true
+    tallies.row[..state.count]
+        .iter()
+        .zip(&state.records)
+        .all(|(tally, record)| tally.d == record.task.d)
 }
 
-// 15 before 16, and 0 where neither refuses.
-pub fn fault_beside(state: State, tallies: Tallies) -> u8
-    ensures { result ≡ fault_beside state tallies }
+// 15 before 16.
+#[tactic(auto, unfolding(tally_histories::specs::Report::fault_beside))]
+pub fn beside(state: State, tallies: Tallies) -> Result<(), Refusal>
+    ensures { fault_in result ≡ fault_beside state tallies }
 {
-    if is_sound(state) {
-        if tallies_hold(tallies, state.count) {
-            if carried(state, tallies) {
-                return 0;
-            }
-            return 16;
-        }
-        return 15;
+    if !is_sound(state) || !tallies_hold(tallies, state.count) {
+        return Err(Refusal::NotSound);
     }
-    15
+    if !carried(state, tallies) {
+        return Err(Refusal::NoFit);
+    }
+    Ok(())
 }

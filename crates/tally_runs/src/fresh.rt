@@ -9,14 +9,9 @@ use tally_rules::{Tallies, fresh};
 pub fn fresh_of(state: State) -> Tallies
     ensures { result ≡ fresh_tallies state }
 {
-    let none = fresh(0);
-    let row = [none; PLACES];
-    let mut tallies = Tallies { row: row };
-    let mut i: usize = 0;
-    while i < PLACES {
-        let one = fresh(state.records[i].task.d);
-        tallies.row[i] = one;
-        i += 1;
+    let mut row = [fresh(0); PLACES];
+    for i in 0..PLACES {
+        row[i] = fresh(state.records[i].task.d);
     }
-    tallies
+    Tallies { row }
 }

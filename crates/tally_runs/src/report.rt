@@ -1,86 +1,61 @@
 // The tallies of a log: 15, then 16, and then the state and the tallies after all events that read.
-ghost use Rattle.std.specs.Prelude.{◌≡◌};
-ghost use Rattle.tally_histories.specs.Sound.{Beside};
-ghost use Rattle.tally_histories.specs.Report.{withheld, tally_log, reported};
+ghost use Rattle.std.specs.Prelude.{◌≡◌, cond, OnOk, Ok, Err};
+ghost use Rattle.refusals.specs.declared.Refusal.TheVariants.{NoFit};
+ghost use Rattle.state_rules.specs.Sound.{StateSound};
+ghost use Rattle.apply_events.specs.Apply.{applied};
+ghost use Rattle.tally_histories.specs.Answer.{as_reported};
+ghost use Rattle.tally_histories.specs.Events.{tallied, admits};
+ghost use Rattle.tally_histories.specs.Sound.{TalliesSound, Beside};
+ghost use Rattle.tally_histories.specs.Report.{tally_log, reported};
 
-use super::beside::fault_beside;
-use apply_ruling::judging::{rule, seat};
-use event_logs::{Ending, ended};
-use event_reading::{COMPLETION, EVENT_SIZE, Reading, read};
+use super::beside::beside;
+use apply_engine::acting::act;
+use apply_ruling::judging::seat;
+use event_logs::ended;
+use event_reading::{COMPLETION, EVENT_SIZE, Event, read};
+use refusals::Refusal;
 use state_rules::State;
 use tally_histories::Reported;
+use tally_rules::Tallies;
 use tally_rules::adding::put_in;
-use tally_rules::{Answer, Tallies};
-use task_records::closing::close;
-use task_steps::opening::is_late;
 
-fn withheld_by(state: State, tallies: Tallies, number: u8) -> Reported
-    ensures { result ≡ withheld state tallies number }
+// One event. If it closes a job as met, the job's response goes into its task's tally; the release is read before the engine acts.
+fn tally(state: &mut State, tallies: &mut Tallies, event: Event) -> Result<(), Refusal>
+    requires { (StateSound state.old) × (TalliesSound tallies.old state.old.count) }
+    ensures fault { result ≡ cond (admits state.old tallies.old event) (Ok tt) (Err NoFit) }
+    ensures state { state.new ≡ (applied state.old event).state }
+    ensures tallies { OnOk result ((tallies.new ≡ tallied state.old tallies.old event) × TalliesSound tallies.new state.old.count) }
 {
-    Reported {
-        answer: Answer::Refused(number),
-        state: state,
-        tallies: tallies,
-        ending: Ending::Stopped {
-            number: number,
-            offset: 0,
-        },
+    let at = seat(event.task, state.count);
+    let release = state.records[at].last;
+    if act(state, event).is_ok() && event.kind == COMPLETION {
+        tallies.row[at] = put_in(tallies.row[at], event.time - release)?;
     }
+    Ok(())
 }
 
-// One addition that does not fit refuses the report, and all stays as given.
-fn tally_log(state: State, tallies: Tallies, log: &[u8]) -> Reported
+// One addition that does not fit refuses the report.
+fn tally_log(state: State, tallies: Tallies, log: &[u8]) -> Result<Reported, Refusal>
     requires { Beside state tallies }
-    ensures { result ≡ tally_log state tallies log.now }
+    ensures { as_reported state tallies result ≡ tally_log state tallies log.now }
 {
-    let count = state.count;
     let mut next = state;
     let mut sums = tallies;
-    let mut from: usize = 0;
-    loop {
-        let got = read(&log[from..]);
-        let Reading::Event(event) = got else {
-            return Reported {
-                answer: Answer::Accepted,
-                state: next,
-                tallies: sums,
-                ending: ended(got, from),
-            };
-        };
-        let at = seat(event.task, count);
-        let ruling = rule(next.clock, count, next.records[at], event);
-        if ruling.refusal == 0 {
-            if event.kind == COMPLETION {
-                let put = put_in(sums.row[at], event.time - next.records[at].last);
-                let answer = put.answer;
-                let Answer::Accepted = answer else {
-                    return withheld_by(state, tallies, 16);
-                };
-                let more = put.tally;
-                sums.row[at] = more;
-            }
-            next.clock = event.time;
-            let after = ruling.after;
-            next.records[at] = after;
-            let mut i: usize = 0;
-            while i < count {
-                if is_late(next.records[i], event.time) {
-                    let one = close(next.records[i], false);
-                    next.records[i] = one;
-                }
-                i += 1;
-            }
-        }
+    let mut from = 0;
+    while let Ok(Some(event)) = read(&log[from..]) {
+        tally(&mut next, &mut sums, event)?;
         from += EVENT_SIZE;
     }
+    Ok(Reported {
+        state: next,
+        tallies: sums,
+        ending: ended(read(&log[from..]), from),
+    })
 }
 
-pub fn run(state: State, tallies: Tallies, log: &[u8]) -> Reported
-    ensures { result ≡ reported state tallies log.now }
+pub fn run(state: State, tallies: Tallies, log: &[u8]) -> Result<Reported, Refusal>
+    ensures { as_reported state tallies result ≡ reported state tallies log.now }
 {
-    let fault = fault_beside(state, tallies);
-    if fault != 0 {
-        return withheld_by(state, tallies, fault);
-    }
+    beside(state, tallies)?;
     tally_log(state, tallies, log)
 }

@@ -9,6 +9,7 @@ use borrow.Author.Tests.{eq-eqb, ne_eqb}
 use lib.Dec.{eqb}
 use lib.ListN.{get_or, set}
 use lib.Seq.{get_or-set_same, get_or-set_other, ext_get_or}
+use Rattle.std.specs.Prelude.{Option}
 use Rattle.laws.specs.Numbers.{one_if}
 use Rattle.laws.specs.Stores.{filled}
 use Rattle.laws.specs.Sums.{total}
@@ -21,7 +22,7 @@ use Rattle.tally_rules.specs.Responses.{Whole}
 use Rattle.tally_sums.specs.Joining.{joint_at, both_to, both}
 
 -- the parts of a tally are all of it
-parts_same : (d e : ℕ) (k l : List ℕ) (m n : ℕ) (s t : Span) (x y : ℕ) → d ≡ e → k ≡ l → m ≡ n → s ≡ t → x ≡ y
+parts_same : (d e : ℕ) (k l : List ℕ) (m n : ℕ) (s t : Option Span) (x y : ℕ) → d ≡ e → k ≡ l → m ≡ n → s ≡ t → x ≡ y
     → ◌≡◌ {A = Tally} (record { d = d; cells = k; met = m; span = s; sum = x }) (record { d = e; cells = l; met = n; span = t; sum = y })
 parts_same d e k l m n s t x y p q r u v = rw (p, q, r, u, v)
 

@@ -12,11 +12,10 @@ use lib.Dec.{eqb, leb}
 use Rattle.laws.specs.Tests.{all_of}
 use Rattle.laws.proofs.Answers.{exactly}
 use Rattle.laws.proofs.Tests.{Tells, tells_true, test_false, both_hold, both_true, cond_no, cond_same, true_not_false, impossible}
-use Rattle.tally_rules.specs.declared.Answer.TheVariants.{Accepted, Refused}
 use Rattle.tally_rules.specs.declared.Tally.{Tally}
-use Rattle.tally_rules.specs.declared.Tallied.{Tallied}
 use Rattle.tally_rules.specs.Tally.{cell_count, most_tallied}
 use Rattle.tally_rules.specs.Sound.{TallySound, tally_holds}
+use Rattle.tally_rules.specs.Answer.{Accepted, Refused, Tallied}
 use Rattle.tally_rules.specs.Adding.{kept, accepted}
 use Rattle.tally_rules.specs.Responses.{Whole}
 use Rattle.tally_rules.proofs.Telling.{tally_tells}

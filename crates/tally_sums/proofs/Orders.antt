@@ -3,7 +3,7 @@ use mathlib.Core.Path.{◌≡◌, refl, sym, ◌∙◌, ap}
 use mathlib.Core.Logic.{◌↔◌, inl, inr}
 use native.Mathlib.Omega.{arith}
 use Rattle.tally_rules.specs.declared.Tally.{Tally}
-use Rattle.tally_rules.specs.declared.Tallied.{Tallied}
+use Rattle.tally_rules.specs.Answer.{Tallied}
 use Rattle.tally_rules.specs.Adding.{kept, accepted}
 use Rattle.tally_rules.specs.Responses.{Whole}
 use Rattle.tally_sums.specs.Joining.{both, joined, Passes, Joins, unsound, refused, together}

@@ -1,20 +1,19 @@
 -- Rules, "Tally": two tallies joined; 15, then 16, and then the tally of both.
-use Rattle.std.specs.Prelude.{ℕ, zero, suc, ◌+◌, ◌≤◌, ◌<◌, min, max, ◌≡◌, Bool, true, false, cond, ◌⊎◌, [], ◌∷◌, leb, eqb}
+use Rattle.std.specs.Prelude.{Option, None, Some, ℕ, zero, suc, ◌+◌, ◌≤◌, ◌<◌, min, max, ◌≡◌, Bool, true, false, cond, ◌⊎◌, [], ◌∷◌, leb, eqb}
 use Rattle.laws.specs.Stores.{filled}
 use Rattle.laws.specs.Tests.{all_of}
 use Rattle.tally_rules.specs.declared.Span.{Span}
-use Rattle.tally_rules.specs.declared.Span.TheVariants.{Absent, Between}
 use Rattle.tally_rules.specs.declared.Tally.{Tally}
-use Rattle.tally_rules.specs.declared.Tallied.{Tallied}
-use Rattle.tally_rules.specs.Tally.{cell_count, most_tallied, cell_at}
+use Rattle.tally_rules.specs.Answer.{Tallied}
+use Rattle.tally_rules.specs.Tally.{between, cell_count, most_tallied, cell_at}
 use Rattle.tally_rules.specs.Sound.{TallySound, tally_holds}
 use Rattle.tally_rules.specs.Adding.{kept, accepted}
 
 -- the least and the most of both; what is absent adds nothing
-abbrev pub wider : Span → Span → Span
-wider Absent s = s
-wider (Between least most) Absent = Between least most
-wider (Between least most) (Between low high) = Between (min least low) (max most high)
+abbrev pub wider : Option Span → Option Span → Option Span
+wider None s = s
+wider (Some s) None = Some s
+wider (Some s) (Some t) = between (min s.least t.least) (max s.most t.most)
 
 -- what a cell comes to
 abbrev pub joint_at : Tally → Tally → ℕ → ℕ

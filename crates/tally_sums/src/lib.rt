@@ -1,104 +1,77 @@
-// Two tallies of one task joined into one: 15, then 16; a refused joining answers the first tally as given.
+// Two tallies of one task joined into one: 15, then 16; what is refused leaves the first tally as given.
 #![tactic(auto)]
 
 ghost use Rattle.std.specs.Prelude.{◌≡◌, cond};
 ghost use Rattle.tally_rules.specs.Tally.{cell_count};
 ghost use Rattle.tally_rules.specs.Sound.{TallySound};
+ghost use Rattle.tally_rules.specs.Answer.{as_tallied};
 ghost use Rattle.tally_rules.specs.Adding.{accepted, kept};
 ghost use Rattle.tally_sums.specs.Joining.{wider, both_to, both, sums_within, joined_sound, joined};
 
-use tally_rules::adding::{larger, refused, smaller};
+use refusals::Refusal;
 use tally_rules::soundness::is_sound;
-use tally_rules::{Answer, CELLS, MOST_TALLIED, Span, Tallied, Tally};
+use tally_rules::{CELLS, MOST_TALLIED, Span, Tally};
 
 // What is absent adds nothing.
-fn widest(a: Span, b: Span) -> Span
+fn widest(a: Option<Span>, b: Option<Span>) -> Option<Span>
     ensures { result ≡ wider a b }
 {
-    let Span::Between { least, most } = a else {
-        return b;
+    let (Some(near), Some(far)) = (a, b) else {
+        return a.or(b);
     };
-    let Span::Between {
-        least: low,
-        most: high,
-    } = b
-    else {
-        return a;
-    };
-    let bottom = smaller(least, low);
-    let top = larger(most, high);
-    Span::Between {
-        least: bottom,
-        most: top,
-    }
+    Some(Span {
+        least: near.least.min(far.least),
+        most: near.most.max(far.most),
+    })
 }
 
 // The numbers of both beside the cells of the first.
+#[tactic(auto, using(tally_rules::proofs::Telling::met_few), unfolding(laws::specs::Stores::filled))]
 fn numbers(a: Tally, b: Tally) -> Tally
     requires { (TallySound a) × (TallySound b) }
     ensures { result ≡ both_to a b 0 }
 {
-    let cells = a.cells;
-    let near = a.span;
-    let far = b.span;
-    let span = widest(near, far);
     Tally {
-        d: a.d,
-        cells: cells,
         met: a.met + b.met,
-        span: span,
+        span: widest(a.span, b.span),
         sum: a.sum + b.sum,
+        ..a
     }
 }
 
 // 16 at the first cell that passes the limit.
-fn join_cells(a: Tally, b: Tally) -> Tallied
+fn join_cells(a: Tally, b: Tally) -> Result<Tally, Refusal>
     requires { (TallySound a) × (TallySound b) }
-    ensures { result ≡ cond (sums_within a b cell_count) (accepted (both a b)) (kept a 16) }
+    ensures { as_tallied a result ≡ cond (sums_within a b cell_count) (accepted (both a b)) (kept a 16) }
 {
     let mut tally = numbers(a, b);
-    let mut c: usize = 0;
-    while c < CELLS {
-        let first = a.cells[c];
-        let second = b.cells[c];
-        let joint = first + second;
+    for c in 0..CELLS {
+        let joint = a.cells[c] + b.cells[c];
         if MOST_TALLIED < joint {
-            return refused(a, 16);
+            return Err(Refusal::NoFit);
         }
         tally.cells[c] = joint;
-        c += 1;
     }
-    Tallied {
-        answer: Answer::Accepted,
-        tally: tally,
-    }
+    Ok(tally)
 }
 
 // Of two tallies that are known to be sound, so that no sum wraps.
-fn join_sound(a: Tally, b: Tally) -> Tallied
+fn join_sound(a: Tally, b: Tally) -> Result<Tally, Refusal>
     requires { (TallySound a) × (TallySound b) }
-    ensures { result ≡ joined_sound a b }
+    ensures { as_tallied a result ≡ joined_sound a b }
 {
-    let d = a.d;
-    let other = b.d;
-    if d != other {
-        return refused(a, 16);
-    }
-    let sum = a.sum + b.sum;
-    if MOST_TALLIED < sum {
-        return refused(a, 16);
+    if a.d != b.d || MOST_TALLIED < a.sum + b.sum {
+        return Err(Refusal::NoFit);
     }
     join_cells(a, b)
 }
 
-pub fn join(a: Tally, b: Tally) -> Tallied
-    ensures { result ≡ joined a b }
+#[tactic(auto, unfolding(crate::specs::Joining::joined))]
+pub fn join(a: Tally, b: Tally) -> Result<Tally, Refusal>
+    ensures { as_tallied a result ≡ joined a b }
 {
-    if is_sound(a) {
-        if is_sound(b) {
-            return join_sound(a, b);
-        }
-        return refused(a, 15);
+    if !is_sound(a) || !is_sound(b) {
+        return Err(Refusal::NotSound);
     }
-    refused(a, 15)
+    join_sound(a, b)
 }

@@ -1,3 +1,2 @@
 -- The laws of the signed level.
 pub mod Needs
-pub mod Signs

@@ -17,13 +17,7 @@ const WORD_PLACES: u8 = 64;
 fn kept(k: u8) -> u32
     ensures { (result ≡ kept_of k) × (result < word_places) }
 {
-    if k < 1 {
-        return 0;
-    }
-    if WORD_PLACES < k {
-        return 63;
-    }
-    (k - 1) as u32
+    u32::from(k.min(WORD_PLACES).saturating_sub(1))
 }
 
 fn power(e: u32) -> u64
@@ -42,5 +36,5 @@ pub fn push(marks: u64, k: u8, miss: bool) -> u64
 pub fn misses_in(marks: u64) -> u32
     ensures { result ≡ ones marks }
 {
-    u64::count_ones(marks)
+    marks.count_ones()
 }

@@ -20,69 +20,64 @@ fn broken_by(of: Record, marks: u64) -> u64
     ensures { result ≡ broken_by of marks }
 {
     if of.broken != 0 {
-        return of.broken;
+        of.broken
+    } else if u32::from(of.task.m) < misses_in(marks) {
+        of.released
+    } else {
+        0
     }
-    let m = of.task.m as u32;
-    if m < misses_in(marks) { of.released } else { 0 }
 }
 
+// In class 0, or by the run. A run that 32 bits can't lengthen is past every w.
 fn sets_back(of: Record) -> bool
     ensures { result ≡ set_back of }
 {
-    if class(of.level) == 0 {
-        return true;
-    }
-    let least = w(of.task.m, of.task.k) as u32;
-    if of.run < least {
-        least <= of.run + 1
-    } else {
-        true
-    }
+    class(of.level) == 0 || u32::from(w(of.task.m, of.task.k)) <= of.run.saturating_add(1)
 }
 
+#[tactic(auto, unfolding(crate::specs::Closing::closed))]
 fn close_met(of: Record) -> Record
     ensures { result ≡ closed of true }
 {
     let marks = push(of.marks, of.task.k, false);
-    let broken = broken_by(of, marks);
-    let level = raise(of.level, top(of.task.m, of.task.k));
-    let met = next(of.met);
-    let mut r = of;
-    r.level = level;
-    r.run = 0;
-    r.live = false;
-    r.met = met;
-    r.marks = marks;
-    r.broken = broken;
-    r
+    Record {
+        level: raise(of.level, top(of.task.m, of.task.k)),
+        run: 0,
+        live: false,
+        met: next(of.met),
+        marks,
+        broken: broken_by(of, marks),
+        ..of
+    }
 }
 
+#[tactic(auto, unfolding(crate::specs::Closing::closed))]
 fn close_missed(of: Record) -> Record
     ensures { result ≡ closed of false }
 {
     let marks = push(of.marks, of.task.k, true);
-    let broken = broken_by(of, marks);
-    let missed = next(of.missed);
-    let mut r = of;
-    r.live = false;
-    r.missed = missed;
-    r.marks = marks;
-    r.broken = broken;
+    let r = Record {
+        live: false,
+        missed: next(of.missed),
+        marks,
+        broken: broken_by(of, marks),
+        ..of
+    };
     if sets_back(of) {
-        let level = low(h(of.task.m, of.task.k));
-        r.level = level;
-        r.run = 0;
-        return r;
+        return Record {
+            level: low(h(of.task.m, of.task.k)),
+            run: 0,
+            ..r
+        };
     }
-    r.run = of.run + 1;
-    r
+    Record {
+        run: of.run + 1,
+        ..r
+    }
 }
 
 pub fn close(of: Record, met: bool) -> Record
     ensures { result ≡ closed of met }
 {
-    if met {
-        return close_met(of);
-    }
-    close_missed(of)
+    if met { close_met(of) } else { close_missed(of) }
 }

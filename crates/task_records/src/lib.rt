@@ -6,7 +6,7 @@ pub mod closing;
 use table_rules::Task;
 
 // live: the last released job is open, with class as it opened. marks: the newest job in bit 0.
-#[derive(Clone, Copy)]
+#[derive(Clone, Copy, Debug, PartialEq, Eq)]
 pub struct Record {
     pub task: Task,
     pub level: i32,

@@ -1,4 +1,3 @@
 -- What is shown of soundness beside the functions' contracts.
-pub mod Balance
 pub mod Kept
 pub mod Sounding

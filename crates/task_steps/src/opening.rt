@@ -12,19 +12,10 @@ use task_thresholds::h;
 pub fn fresh_of(task: Task) -> Record
     ensures { result ≡ fresh task }
 {
-    let level = low(h(task.m, task.k));
     Record {
-        task: task,
-        level: level,
-        run: 0,
-        live: false,
-        class: 0,
-        last: 0,
-        released: 0,
-        met: 0,
-        missed: 0,
-        marks: 0,
-        broken: 0,
+        task,
+        level: low(h(task.m, task.k)),
+        ..no_record()
     }
 }
 
@@ -57,34 +48,29 @@ pub fn no_record() -> Record
 pub fn is_late(of: Record, time: u64) -> bool
     ensures { result ≡ late of time }
 {
-    if of.live {
-        let d = of.task.d as u64;
-        if time < d {
-            return false;
-        }
-        return of.last < time - d;
-    }
-    false
+    of.live && of.last < time.saturating_sub(u64::from(of.task.d))
 }
 
+#[tactic(auto, unfolding(crate::specs::Opening::expired))]
 pub fn expire(of: Record, time: u64) -> Record
     ensures { result ≡ expired of time }
 {
     if is_late(of, time) {
-        return close(of, false);
+        close(of, false)
+    } else {
+        of
     }
-    of
 }
 
+#[tactic(auto, unfolding(crate::specs::Opening::opened))]
 pub fn release(of: Record, time: u64) -> Record
     ensures { result ≡ opened of time }
 {
-    let class = class(of.level);
-    let released = next(of.released);
-    let mut r = of;
-    r.live = true;
-    r.class = class;
-    r.last = time;
-    r.released = released;
-    r
+    Record {
+        live: true,
+        class: class(of.level),
+        last: time,
+        released: next(of.released),
+        ..of
+    }
 }

@@ -7,5 +7,5 @@ use task_records::Record;
 pub fn key(of: Record) -> u64
     ensures { result ≡ key_of of }
 {
-    (of.class as u64) * 4294967296 + (of.task.d as u64)
+    u64::from(of.class) * 4294967296 + u64::from(of.task.d)
 }

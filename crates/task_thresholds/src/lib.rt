@@ -15,35 +15,30 @@ pub fn w(m: u8, k: u8) -> u8
     ensures { result ≡ w_of m k }
 {
     if m == 0 {
-        return HARD_W;
+        HARD_W
+    } else if k <= m {
+        1
+    } else {
+        (m / (k - m)).max(1)
     }
-    if k <= m {
-        return 1;
-    }
-    let floor = m / (k - m);
-    if floor < 1 { 1 } else { floor }
 }
 
 pub fn h(m: u8, k: u8) -> u8
     ensures { result ≡ h_of m k }
 {
     if m == 0 {
-        return HARD_H;
+        HARD_H
+    } else {
+        top(m, k).div_ceil(m)
     }
-    if k <= m {
-        return 0;
-    }
-    (k - m + (m - 1)) / m
 }
 
 pub fn top(m: u8, k: u8) -> u8
     ensures { result ≡ top_of m k }
 {
     if m == 0 {
-        return HARD_TOP;
+        HARD_TOP
+    } else {
+        k.saturating_sub(m)
     }
-    if k <= m {
-        return 0;
-    }
-    k - m
 }

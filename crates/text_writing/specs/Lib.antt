@@ -1,3 +1,4 @@
 -- What the crate's contracts cite.
 pub mod Decimal
 pub mod Sheet
+pub mod Puts

@@ -1,47 +1,55 @@
-// Text in a lent slice: bytes and decimal numbers put at a place, and the place behind them. What does not fit is left out, and the place is then past the end.
+// Text in a lent slice: bytes and decimal numbers put at a place, one behind the other. What does not fit is left out, and the place is then past the end.
 #![tactic(auto)]
 
-ghost use Rattle.std.specs.Prelude.{◌≡◌, ◌++◌};
-ghost use Rattle.text_writing.specs.Sheet.{sheet, put, puts};
+ghost use Rattle.std.specs.Prelude.{[], ◌∷◌, ◌++◌};
 ghost use Rattle.text_writing.specs.Decimal.{decimal};
+ghost use Rattle.text_writing.specs.Puts.{Puts};
 
-fn byte(out: &mut [u8], at: usize, value: u8) -> usize
-    ensures { sheet out.new result ≡ put (sheet out.old at) value }
-{
-    if at < out.len() {
-        out[at] = value;
-        return at + 1;
-    }
-    out.len() + 1
+// A lent slice, and the place at which the next byte goes.
+#[derive(Drop)]
+pub struct Sheet<'a> {
+    pub out: &'a mut [u8],
+    pub at: usize,
 }
 
-pub fn words(out: &mut [u8], at: usize, text: &[u8]) -> usize
-    ensures { sheet out.new result ≡ puts (sheet out.old at) text.now }
-{
-    let mut place = at;
-    let mut i: usize = 0;
-    while i < text.len() {
-        place = byte(out, place, text[i]);
-        i += 1;
+impl Sheet<'_> {
+    #[tactic(auto, unfolding(crate::specs::Sheet::put, crate::specs::Sheet::puts))]
+    fn byte(&mut self, value: u8)
+        ensures { Puts self.old self.new (value ∷ []) }
+    {
+        if self.at < self.out.len() {
+            self.out[self.at] = value;
+            self.at += 1;
+        } else {
+            self.at = self.out.len() + 1;
+        }
     }
-    place
-}
 
-// The digits before the last come first; a number of one digit has none.
-pub fn number(out: &mut [u8], at: usize, n: u64) -> usize
-    ensures { sheet out.new result ≡ puts (sheet out.old at) (decimal n) }
-{
-    if n < 10 {
-        return byte(out, at, 48 + n as u8);
+    pub fn words(&mut self, text: &[u8])
+        ensures { Puts self.old self.new text.now }
+    {
+        for b in text {
+            self.byte(*b);
+        }
     }
-    let place = number(out, at, n / 10);
-    byte(out, place, 48 + (n % 10) as u8)
-}
 
-// A word and the number that it names.
-pub fn field(out: &mut [u8], at: usize, text: &[u8], n: u64) -> usize
-    ensures { sheet out.new result ≡ puts (sheet out.old at) (text.now ++ decimal n) }
-{
-    let place = words(out, at, text);
-    number(out, place, n)
+    // The digits before the last come first; a number of one digit has none.
+    pub fn number(&mut self, n: u64)
+        ensures { Puts self.old self.new (decimal n) }
+    {
+        if n < 10 {
+            self.byte(b'0' + n as u8);
+            return;
+        }
+        self.number(n / 10);
+        self.byte(b'0' + (n % 10) as u8);
+    }
+
+    // A word and the number that it names.
+    pub fn field(&mut self, text: &[u8], n: u64)
+        ensures { Puts self.old self.new (text.now ++ decimal n) }
+    {
+        self.words(text);
+        self.number(n);
+    }
 }

@@ -2,16 +2,17 @@
 use mathlib.Core.Path.{sym, ◌∙◌}
 use Rattle.bench_lent.proofs.brumerola_bench_apply_in.Goals as goal
 
-pub returns-then-serves : goal.returns-then-serves
-returns-then-serves c =
+pub returns-then-not-serves : goal.returns-then-not-serves
+returns-then-not-serves c = rw (sym c.serves.ensures ∙ c.if-not-serves.true)
+
+pub returns : goal.returns
+returns c =
     rw (
-      sym c.serves.ensures ∙ c.if-serves.true,
+      sym c.serves.ensures ∙ c.if-not-serves.false,
       c.row_sum.ensures,
       c.events.ensures,
-      c.start-begun.ensures,
+      c.state_in-state.ensures,
+      c.start.ensures,
       c.table.ensures,
       c.first-maker.ensures,
     )
-
-pub returns : goal.returns
-returns c = rw (sym c.serves.ensures ∙ c.if-serves.false)

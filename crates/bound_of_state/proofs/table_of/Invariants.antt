@@ -1,4 +1,4 @@
-use Prim.Native.Nat.{ℕ, ◌-◌, ◌≤◌}
+use Prim.Native.Nat.{ℕ}
 use mathlib.Core.Path.{◌≡◌}
 use lib.ListN.{replicate}
 use Rattle.laws.specs.Stores.{filled}
@@ -6,9 +6,6 @@ use Rattle.table_rules.specs.Rules.{no_task}
 use Rattle.state_rules.specs.State.{record_at}
 use Rattle.bound_of_state.proofs.table_of.Given as goal
 
+-- the first i places hold the records' tasks
 abbrev pub invariant-loop-i : goal.invariant-loop-i
-invariant-loop-i l =
-    (l.i ≤ l.count) × (l.table ≡ record { count = l.count; tasks = filled (λ (j : ℕ). (record_at l.state j).task) l.i (replicate 16 no_task) })
-
-abbrev pub decreases-loop-i : goal.decreases-loop-i
-decreases-loop-i l = l.count - l.i
+invariant-loop-i l = l.tasks ≡ filled (λ (j : ℕ). (record_at l.fn.state j).task) l.i (replicate 16 no_task)

@@ -1,39 +1,30 @@
--- `rest` meets its contract: what stands before the place has been read, a record that reads moves the place on, and any other answer is the end.
-use Prim.Native.Nat.{◌+◌}
-use mathlib.Core.Path.{sym, ap, ◌∙◌}
+-- `rest` meets its contract: a record that reads is dropped, which leaves the rest the same, and any other answer is the end.
+use Prim.Native.Nat.{◌≤◌}
+use mathlib.Core.Path.{◌≡◌, sym, ◌∙◌}
 use native.Mathlib.Omega.{arith}
+use lib.ListN.{length, length-drop}
 use Rattle.laws.proofs.Parts.{tail_is}
 use Rattle.event_reading.specs.Record.{read_record}
-use Rattle.event_logs.proofs.Records.{Place, place_none, place_more, place_stop}
-use Rattle.event_logs.proofs.rest.Goals.{In-Event}
+use Rattle.event_reading.specs.Reading as R
+use Rattle.event_logs.proofs.Records.{record_there, rest_behind}
+use Rattle.event_logs.proofs.rest.Goals.{In-Ok-Some}
 use Rattle.event_logs.proofs.rest.Goals as goal
 
-pub loop-at-init : goal.loop-at-init
-loop-at-init c = place_none _
+-- what is read at the front
+reads : (c : In-Ok-Some) → read_record c.loop-left.left.now ≡ R.Event c.in-Ok-Some.field-0-0
+reads c = sym (rw c.in-Ok-Some.field-0-is at c.in-Ok-Some.ensures)
 
-pub returns-in_default : goal.returns-in_default
-returns-in_default c =
-    let s = c.args.log.now in
-    let l = c.loop-at in
-    let e = c.read.ensures ∙ ap read_record (tail_is s l.at) in
-    tail_is s l.at
-    ∙ place_stop s l.at l.invariant
-    (λ x q. c.in_default.not-Event x (e ∙ q))
+pub slice_bounds-left-count : goal.slice_bounds-left-count
+slice_bounds-left-count c = record_there _ _ (reads (goal.at.slice_bounds-left-count c).In-Ok-Some)
 
--- after a record that reads
-again : (c : In-Event) → Place c.args.log.now
-    (c.loop-at.at + 20)
-again c =
-    let s = c.args.log.now in
-    let l = c.loop-at in
-    let e = c.read.ensures in
-    place_more s l.at c.in-Event.field-0 l.invariant (ap read_record (sym (tail_is s l.at)) ∙ sym e ∙ c.in-Event.is)
+pub slice_bounds-left-start : goal.slice_bounds-left-start
+slice_bounds-left-start c = record_there _ _ (reads (goal.at.slice_bounds-left-start c).In-Ok-Some)
 
-pub overflow_add-at : goal.overflow_add-at
-overflow_add-at c = omega (arith, (again c).within)
+pub loop-left-smaller : goal.loop-left-smaller
+loop-left-smaller c =
+    let h : 20 ≤ length c.loop-left.left.now = record_there _ _ (reads (goal.at.loop-left-smaller c).In-Ok-Some) in
+    rw (tail_is c.loop-left.left.now 20, length-drop) (omega arith)
 
-pub loop-at-smaller : goal.loop-at-smaller
-loop-at-smaller c = omega (arith, (again c).within)
-
-pub loop-at-preserved : goal.loop-at-preserved
-loop-at-preserved c = again c
+pub loop-left-preserved : goal.loop-left-preserved
+loop-left-preserved c =
+    rw (tail_is c.loop-left.left.now 20) (rest_behind _ _ (reads (goal.at.loop-left-preserved c).In-Ok-Some) ∙ c.loop-left.invariant)

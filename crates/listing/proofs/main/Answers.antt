@@ -5,8 +5,8 @@ use Rattle.listing_of_input.proofs.Told.{text_within}
 use Rattle.listing.proofs.main.Goals as goal
 
 pub slice_bounds-text-end : goal.slice_bounds-text-end
-slice_bounds-text-end c = omega (arith, c.list.auto.out, text_within _ _ c.in-Text.end (sym c.in-Text.ensures.0))
+slice_bounds-text-end c = omega (arith, c.list.auto.out, text_within _ _ c.in-Ok-list.end (sym c.in-Ok-list.ensures.0))
 
 pub slice_bounds-printed-end : goal.slice_bounds-printed-end
 slice_bounds-printed-end c =
-    sym (length-take-le _ _ (omega (arith, c.list.auto.out, text_within _ _ c.in-Text.end (sym c.in-Text.ensures.0))))
+    sym (length-take-le _ _ (omega (arith, c.list.auto.out, text_within _ _ c.in-Ok-list.end (sym c.in-Ok-list.ensures.0))))

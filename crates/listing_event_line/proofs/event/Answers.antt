@@ -1,9 +1,6 @@
--- `event` meets its contract: the event's number, its answer and the end of the line, one behind another.
-use Rattle.text_writing.specs.Sheet.{sheet}
-use Rattle.text_writing.proofs.Sheets.{and_then}
+-- `event` meets its contract: the event's number, what it was answered, and the end of the line.
+use Rattle.text_writing.proofs.Putting.{then_put}
 use Rattle.listing_event_line.proofs.event.Goals as goal
 
 pub returns : goal.returns
-returns c =
-    let a = c.args in
-    and_then (sheet a.out.now a.at) _ _ c.field-a.ensures (and_then _ _ _ c.answer_text-b.ensures c.words.ensures)
+returns c = then_put c.field.ensures (then_put c.answer_text.ensures c.words.ensures)

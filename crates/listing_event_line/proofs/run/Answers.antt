@@ -1,9 +1,6 @@
 -- `run` meets its contract: the position, and then the class.
-use Rattle.text_writing.specs.Sheet.{sheet}
-use Rattle.text_writing.proofs.Sheets.{and_then}
+use Rattle.text_writing.proofs.Putting.{then_put}
 use Rattle.listing_event_line.proofs.run.Goals as goal
 
 pub returns : goal.returns
-returns c =
-    let a = c.args in
-    and_then (sheet a.out.now a.at) _ _ c.field-a.ensures c.field.ensures
+returns c = then_put c.field.ensures (rw c.from.ensures at c.field-2.ensures)

@@ -8,7 +8,7 @@ use lib.ListN.{length, take, drop, replicate, length-append, length-replicate}
 use lib.Seq.{take_at, length-take-le}
 use Rattle.text_writing.specs.Sheet.{Sheet, sheet, puts}
 use Rattle.text_writing.proofs.Sheets.{puts_fit}
-use Rattle.listing_of_input.specs.declared.Listing.TheVariants.{Text}
+use Rattle.listing_of_input.specs.Answer.{Text}
 use Rattle.listing_of_input.specs.Lent.{list_answer, listed_into}
 use Rattle.listing_text.specs.Listing.{listing_of}
 use Rattle.listing_text.proofs.Fits.{listing_fits}
@@ -40,8 +40,12 @@ returns-then-out-end c =
 pub slice_bounds-text-end : goal.slice_bounds-text-end
 slice_bounds-text-end c = (made c.args.input.now _ _ c.written-end.ensures).within
 
-pub slice_bounds-words-end : goal.slice_bounds-words-end
-slice_bounds-words-end c = sym (length-take-le _ _ (made c.args.input.now _ _ c.written-end.ensures).within)
+pub slice_bounds-copy_from_slice-end-3 : goal.slice_bounds-copy_from_slice-end-3
+slice_bounds-copy_from_slice-end-3 c = sym (length-take-le _ _ (made c.args.input.now _ _ c.written-end.ensures).within)
+
+pub copy_from_slice-requires : goal.copy_from_slice-requires
+copy_from_slice-requires c =
+    length-take-le _ _ c.if-out-end.false ∙ sym (length-take-le _ _ (made c.args.input.now _ _ c.written-end.ensures).within)
 
 pub returns : goal.returns
 unfolding list_answer listed_into
@@ -49,5 +53,5 @@ returns c =
     let a = c.args in
     let m = made a.input.now _ _ c.written-end.ensures in
     let h : length (listing_of a.input.now) ≤ length a.out.now = omega (arith, m.size, c.if-out-end.false) in
-    let e = (rw m.front at c.words.ensures) ∙ puts_fit a.out.now (listing_of a.input.now) h in
-    (rw (le-ltb _ _ h) (ap Text m.size), rw (le-ltb _ _ h) (ap (λ (x : Sheet). x.bytes) e))
+    let e = c.copy_from_slice.ensures.after in
+    (rw (le-ltb _ _ h) (ap Text m.size), rw (le-ltb _ _ h, e, m.front, m.size))

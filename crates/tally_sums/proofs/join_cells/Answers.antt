@@ -9,12 +9,9 @@ use Rattle.tally_sums.proofs.Cells.{more-joined}
 use Rattle.tally_sums.proofs.Joining.{sums_fail}
 use Rattle.tally_sums.proofs.join_cells.Goals as goal
 
-pub numbers-tally-requires : goal.numbers-tally-requires
-numbers-tally-requires c = c.requires
-
 pub loop-c-init : goal.loop-c-init
 unfolding sums_within
-loop-c-init c = (omega arith, (refl, c.numbers-tally.ensures))
+loop-c-init c = record { within = refl; joined = c.numbers-tally.ensures }
 
 pub overflow_add-joint : goal.overflow_add-joint
 overflow_add-joint c =
@@ -23,19 +20,21 @@ overflow_add-joint c =
 pub returns-then-joint-gt-MOST_TALLIED : goal.returns-then-joint-gt-MOST_TALLIED
 returns-then-joint-gt-MOST_TALLIED c =
     let s = c.args in
-    rw (sums_fail s.a s.b cell_count c.loop-c.c c.loop-c-test.true c.if-joint-gt-MOST_TALLIED.true) c.refused.ensures
+    rw (sums_fail s.a s.b cell_count c.loop-c.c c.loop-c-test.true c.if-joint-gt-MOST_TALLIED.true)
 
 pub loop-c-preserved : goal.loop-c-preserved
 unfolding sums_within
 loop-c-preserved c =
     let l = c.loop-c in
     let s = c.args in
-    let few = le-leb _ most_tallied c.if-joint-gt-MOST_TALLIED.false in
-    (omega arith, rw (add-one l.c, l.invariant.1.0, few) (refl, more-joined s.a s.b l.tally l.c l.invariant.1.1))
+    record {
+      within = rw (add-one l.c, l.invariant.within) (le-leb _ most_tallied c.if-joint-gt-MOST_TALLIED.false);
+      joined = rw (add-one l.c) (more-joined s.a s.b l.tally l.c l.invariant.joined);
+    }
 
 pub returns : goal.returns
 unfolding both
 returns c =
     let l = c.loop-c in
     let e : cell_count ≡ l.c = omega arith in
-    rw (e, l.invariant.1.0, l.invariant.1.1)
+    rw (e, l.invariant.within, l.invariant.joined)

@@ -1,23 +1,15 @@
 -- `log::stand` meets its contract: the best of the tasks that the state counts is told.
-use Prim.Native.Nat.{◌<◌, min}
-use mathlib.Core.Path.{◌≡◌}
+use Prim.Native.Nat.{◌<◌}
 use native.Mathlib.Omega.{arith}
-use Rattle.state_choice.proofs.Least.{best_within}
-use Rattle.apply_engine.proofs.log.stand.Goals.{After-choose-best}
+use Rattle.apply_engine.proofs.Settled.{best_placed}
+use Rattle.apply_engine.proofs.log.stand.Goals.{After-place}
 use Rattle.apply_engine.proofs.log.stand.Goals as goal
 
-placed : (c : After-choose-best) → c.choose-best.result.at < 16
-placed c =
-    let s = c.args.state in
-    let n = c.requires.counted in
-    let m : min s.count 16 ≡ s.count = omega (arith, n.most) in
-    rw (c.choose-best.ensures, m) (omega (arith, best_within s.records s.count (omega (arith, n.one)), n.most))
+placed : (c : After-place) → c.place.result < 16
+placed c = let s = c.args.state in rw (c.place.ensures, c.choose-best.ensures) (best_placed s.records s.count c.requires.counted.one)
 
-pub offset_bounds-state-at : goal.offset_bounds-state-at
-offset_bounds-state-at c = omega (arith, placed c)
+pub offset_bounds-state-place : goal.offset_bounds-state-place
+offset_bounds-state-place c = omega (arith, placed c)
 
-pub bounds-state-at : goal.bounds-state-at
-bounds-state-at c = placed c
-
-pub returns : goal.returns
-returns c = rw (c.told-said.ensures, c.choose-best.ensures)
+pub bounds-state-place : goal.bounds-state-place
+bounds-state-place c = placed c

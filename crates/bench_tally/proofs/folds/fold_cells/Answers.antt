@@ -1,20 +1,20 @@
--- `fold_cells` meets its contract: so far the cells before c are folded.
+-- `fold_cells` meets its contract: so far the cells before this one are folded.
 use mathlib.Core.Path.{◌≡◌, refl}
 use native.Mathlib.Numerals.{add-one}
 use native.Mathlib.Omega.{arith}
 use Rattle.bench_tally.specs.Folds.{cells_folded}
 use Rattle.bench_tally.proofs.folds.fold_cells.Goals as goal
 
-pub loop-c-init : goal.loop-c-init
+pub loop-cell-init : goal.loop-cell-init
 unfolding cells_folded
-loop-c-init c = (omega arith, refl)
+loop-cell-init c = refl
 
-pub loop-c-preserved : goal.loop-c-preserved
+pub loop-cell-preserved : goal.loop-cell-preserved
 unfolding cells_folded
-loop-c-preserved c = (omega (arith, c.loop-c-test.true), rw (add-one, c.fold-folded.ensures, c.loop-c.invariant.1))
+loop-cell-preserved c = rw (add-one, c.fold-folded.ensures, c.loop-cell.invariant)
 
 pub returns : goal.returns
 returns c =
-    let l = c.loop-c in
-    let e : l.c ≡ 128 = omega (arith, c.loop-c-test.false, l.invariant.0) in
-    rw e at l.invariant.1
+    let l = c.loop-cell in
+    let e : l.cell-index ≡ 128 = omega arith in
+    rw e at l.invariant

@@ -1,30 +1,31 @@
--- `fold_tallies` meets its contract: so far the tallies before i are folded.
-use Prim.Native.Nat.{min}
+-- `fold_tallies` meets its contract: so far the tallies before this one are folded.
+use Prim.Native.Nat.{min, ◌<◌}
 use mathlib.Core.Path.{◌≡◌, refl}
 use native.Mathlib.Numerals.{add-one}
 use native.Mathlib.Omega.{arith}
+use lib.ListN.{get_or, take, length-take}
+use Rattle.std.proofs.lemmas.List.{get_or-take}
+use Rattle.tally_rules.specs.declared.Tally.{Tally}
+use Rattle.tally_rules.specs.Tally.{no_tally}
 use Rattle.bench_tally.specs.Folds.{tallies_folded}
 use Rattle.bench_tally.proofs.folds.fold_tallies.Goals as goal
 
-pub loop-i-init : goal.loop-i-init
+pub loop-tally-init : goal.loop-tally-init
 unfolding tallies_folded
-loop-i-init c = (omega arith, refl)
+loop-tally-init c = refl
 
-pub offset_bounds-of-i : goal.offset_bounds-of-i
-offset_bounds-of-i c = omega (arith, c.loop-i-test.true, c.places-n.ensures)
-
-pub bounds-of-i : goal.bounds-of-i
-bounds-of-i c = omega (arith, c.loop-i-test.true, c.places-n.ensures)
-
-pub loop-i-preserved : goal.loop-i-preserved
+pub loop-tally-preserved : goal.loop-tally-preserved
 unfolding tallies_folded
-loop-i-preserved c =
-    let l = c.loop-i in
-    (omega (arith, c.loop-i-test.true), rw (add-one, c.fold_tally-folded.ensures, l.invariant.1))
+loop-tally-preserved c =
+    let l = c.loop-tally in
+    let row = c.args.of.row in
+    let h : l.tally-index < c.places.result = omega (arith, length-take {A = Tally}, c.loop-tally-test.true) in
+    let e : get_or (take c.places.result row) l.tally-index no_tally ≡ get_or row l.tally-index no_tally =
+    get_or-take c.places.result row l.tally-index no_tally h in
+    rw (add-one, c.fold_tally-folded.ensures, e, l.invariant)
 
 pub returns : goal.returns
 returns c =
-    let l = c.loop-i in
-    let n = c.places-n in
-    let e : l.i ≡ min c.args.count 16 = omega (arith, c.loop-i-test.false, l.invariant.0, n.ensures) in
-    rw e at l.invariant.1
+    let l = c.loop-tally in
+    let e : l.tally-index ≡ min c.args.count 16 = omega (arith, length-take {A = Tally}) in
+    rw e at l.invariant

@@ -10,35 +10,36 @@ use Rattle.laws.proofs.Sums.{total_small}
 use Rattle.tally_rules.specs.Tally.{cell_count, most_tallied}
 use Rattle.tally_rules.specs.Sound.{cells_within}
 use Rattle.tally_rules.proofs.Telling.{within_held, within_fails}
-use Rattle.tally_rules.proofs.soundness.cells_hold.Goals.{In-loop-i}
 use Rattle.tally_rules.proofs.soundness.cells_hold.Goals as goal
 
-pub loop-i-init : goal.loop-i-init
+pub loop-cell-init : goal.loop-cell-init
 unfolding cells_within total
-loop-i-init c = (omega arith, (refl, refl))
+loop-cell-init c = record { within = refl; total = refl }
 
 pub returns-then-cell-gt-MOST_TALLIED : goal.returns-then-cell-gt-MOST_TALLIED
 returns-then-cell-gt-MOST_TALLIED c =
-    rw (within_fails c.args.tally.cells cell_count c.loop-i.i (omega arith) c.if-cell-gt-MOST_TALLIED.true)
+    rw (within_fails c.args.tally.cells cell_count c.loop-cell.cell-index c.loop-cell-test.true c.if-cell-gt-MOST_TALLIED.true)
 
--- what was added up so far
-small : (c : In-loop-i) → c.loop-i.total ≤ c.loop-i.i * most_tallied
-small c =
-    let l = c.loop-i in
-    let cells = c.args.tally.cells in
-    rw l.invariant.1.1 (total_small (λ (k : ℕ). get_or cells k 0) most_tallied l.i (within_held cells l.i l.invariant.1.0))
-
+-- what was added up so far is small
 pub overflow_add-total : goal.overflow_add-total
-overflow_add-total c = omega (arith, small (goal.at.overflow_add-total c).In-loop-i)
+overflow_add-total c =
+    let l = c.loop-cell in
+    let cells = c.args.tally.cells in
+    let small : l.total ≤ l.cell-index * most_tallied =
+    rw l.invariant.total (total_small (λ (k : ℕ). get_or cells k 0) most_tallied l.cell-index (within_held cells l.cell-index l.invariant.within)) in
+    omega arith
 
-pub loop-i-preserved : goal.loop-i-preserved
+pub loop-cell-preserved : goal.loop-cell-preserved
 unfolding cells_within total
-loop-i-preserved c =
-    let l = c.loop-i in
-    (omega arith, rw (add-one l.i, l.invariant.1.0, le-leb _ most_tallied c.if-cell-gt-MOST_TALLIED.false, l.invariant.1.1) (refl, refl))
+loop-cell-preserved c =
+    let l = c.loop-cell in
+    record {
+      within = rw (add-one l.cell-index, l.invariant.within) (le-leb _ most_tallied c.if-cell-gt-MOST_TALLIED.false);
+      total = rw (add-one l.cell-index, l.invariant.total);
+    }
 
 pub returns : goal.returns
 returns c =
-    let l = c.loop-i in
-    let e : cell_count ≡ l.i = omega arith in
-    rw (e, l.invariant.1.0, l.invariant.1.1)
+    let l = c.loop-cell in
+    let e : cell_count ≡ l.cell-index = omega arith in
+    rw (e, l.invariant.within, l.invariant.total)

@@ -1,4 +1,4 @@
-use Prim.Native.Nat.{ℕ, ◌-◌, ◌≤◌}
+use Prim.Native.Nat.{ℕ}
 use mathlib.Core.Path.{◌≡◌}
 use lib.ListN.{replicate}
 use Rattle.laws.specs.Stores.{filled}
@@ -7,8 +7,4 @@ use Rattle.tally_histories.specs.Sound.{deadline_at}
 use Rattle.tally_runs.proofs.fresh.fresh_of.Given as goal
 
 abbrev pub invariant-loop-i : goal.invariant-loop-i
-invariant-loop-i l =
-    (l.i ≤ 16) × (l.tallies ≡ record { row = filled (λ (j : ℕ). fresh_tally (deadline_at l.state j)) l.i (replicate 16 (fresh_tally 0)) })
-
-abbrev pub decreases-loop-i : goal.decreases-loop-i
-decreases-loop-i l = 16 - l.i
+invariant-loop-i l = l.row ≡ filled (λ (j : ℕ). fresh_tally (deadline_at l.state j)) l.i (replicate 16 (fresh_tally 0))

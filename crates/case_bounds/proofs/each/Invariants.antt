@@ -1,6 +1,0 @@
--- `each` is safe and ends: the place moves on by each part, within the input.
-use Rattle.std.proofs.Common.{length, ◌-◌}
-use Rattle.case_bounds.proofs.each.Given as goal
-
-abbrev pub decreases-loop-at : goal.decreases-loop-at
-decreases-loop-at g l = length l.all - l.at

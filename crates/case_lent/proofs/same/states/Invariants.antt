@@ -1,6 +1,0 @@
--- `same::states` is safe and ends: i stays within the places.
-use Rattle.std.proofs.Common.{◌-◌}
-use Rattle.case_lent.proofs.same.states.Given as goal
-
-abbrev pub decreases-loop-i : goal.decreases-loop-i
-decreases-loop-i l = 16 - l.i

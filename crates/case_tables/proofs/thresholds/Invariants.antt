@@ -1,6 +1,0 @@
--- `thresholds` is safe and ends: i stays within the count.
-use Rattle.std.proofs.Common.{◌-◌}
-use Rattle.case_tables.proofs.thresholds.Given as goal
-
-abbrev pub decreases-loop-i : goal.decreases-loop-i
-decreases-loop-i g l = l.count - l.i

@@ -1,2 +1,0 @@
--- What the program's contracts cite.
-pub mod Taken

@@ -1,0 +1,2 @@
+-- What is shown of the refusals' numbers.
+pub mod Numbers

@@ -1,0 +1,2 @@
+-- What the contracts cite of refusals.
+pub mod Numbers

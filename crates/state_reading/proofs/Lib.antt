@@ -1,0 +1,2 @@
+-- What is shown of a state that table bytes begin.
+pub mod Starts
