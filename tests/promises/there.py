@@ -1,4 +1,5 @@
 """What there is: crates, edits, definitions and functions by the names that documents give them; and the list of what is missing."""
+import os
 import pathlib
 import re
 
@@ -11,8 +12,19 @@ def read(path):
     return path.read_text(encoding="utf-8")
 
 
+def files(top):
+    """The file, or those below the folder, but for what tools make: that may come and go while this looks."""
+    if top.is_file():
+        return [top]
+    found = []
+    for folder, folders, names in os.walk(top):
+        folders[:] = [x for x in folders if is_ours(pathlib.Path(folder, x))]
+        found += [pathlib.Path(folder, x) for x in names]
+    return sorted(found)
+
+
 def sources(kind, suffix):
-    return [p for p in CRATES.glob(f"*/{kind}/**/*{suffix}") if is_ours(p)]
+    return [p for p in files(CRATES) if p.name.endswith(suffix) and kind in ("", p.relative_to(CRATES).parts[1])]
 
 
 def is_ours(path):
@@ -24,12 +36,11 @@ def is_ours(path):
 def texts():
     """Every file of the repository that is text, with what it says."""
     for top in (".ci", "README.md", "brumerola", "command", "crates", "crates.txt", "docs", "examples", "include", "tests"):
-        for path in sorted([ROOT / top, *(ROOT / top).rglob("*")]):
-            if path.is_file() and is_ours(path):
-                try:
-                    yield path, read(path)
-                except UnicodeDecodeError:
-                    pass
+        for path in files(ROOT / top):
+            try:
+                yield path, read(path)
+            except UnicodeDecodeError:
+                pass
 
 
 edits = {}  # by an edit's name: the crates that have one of that name
