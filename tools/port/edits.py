@@ -23,7 +23,8 @@ sys.path.insert(0, HERE)
 sys.dont_write_bytecode = True
 import spelling  # noqa: E402
 
-PORT = "/opt/rattle/port"
+# the toolchain's own scripts lie beside the folder of its command
+PORT = os.path.join(os.path.dirname(os.path.dirname(os.path.realpath(shutil.which("rt") or "rt"))), "port")
 
 
 def read(path):

@@ -3,7 +3,7 @@
 
 usage: python3 tools/port/spelling.py [FOLDER]      the repository at FOLDER, or the one that this script is in
 
-It is run once, after /opt/rattle/port/port.py. In crates/ every name is turned in .antt files; in .rt files only names of
+It is run once, after the toolchain's port.py. In crates/ every name is turned in .antt files; in .rt files only names of
 definitions, which no code can have; in pages only names between backticks. Names of src/, exported names and strings stay.
 """
 
