@@ -1,7 +1,7 @@
 // Events applied to a state, by value: the code of what `apply_events` defines.
 #![tactic(auto)]
 
-pub mod acting;
+mod acting;
 pub mod apply;
 pub mod log;
 pub mod telling;

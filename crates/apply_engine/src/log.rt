@@ -40,15 +40,26 @@ pub fn run(mut state: State, log: &[u8]) -> Ran
             }),
         };
     }
-    let mut answer = Ok(stand(state));
-    let mut from = 0;
-    while let Ok(Some(event)) = read(&log[from..]) {
+    let got = read(log);
+    let Ok(Some(first)) = got else {
+        return Ran {
+            answer: Ok(stand(state)),
+            state,
+            ending: ended(got, 0),
+        };
+    };
+    let mut answer = act(&mut state, first);
+    let mut from = EVENT_SIZE;
+    loop {
+        let got = read(&log[from..]);
+        let Ok(Some(event)) = got else {
+            return Ran {
+                answer,
+                state,
+                ending: ended(got, from),
+            };
+        };
         answer = act(&mut state, event);
         from += EVENT_SIZE;
-    }
-    Ran {
-        answer,
-        state,
-        ending: ended(read(&log[from..]), from),
     }
 }

@@ -14,6 +14,7 @@ use bench_sums::{fold_answer, fold_records, state_in};
 use bench_table::table;
 use listing_of_input::list;
 use state_rules::fresh::start;
+use table_reading::table::table_in;
 
 // The events of a rule alone.
 #[unsafe(no_mangle)]
@@ -64,10 +65,7 @@ pub extern "C" fn brumerola_bench_log(table: &[u8], log: &[u8]) -> u64
 pub extern "C" fn brumerola_bench_bounds(table: &[u8]) -> u64
     ensures { result ≡ bounds_asked table.now }
 {
-    match table_reading::table::read(table) {
-        Ok(read) => bounds::sum(read),
-        Err(_) => 0,
-    }
+    bounds::sum(table_in(table_reading::table::read(table)))
 }
 
 // The listing of an input: its bytes, or 2^40 where it is refused.

@@ -8,11 +8,10 @@ ghost use Rattle.bench_sums.specs.Folds.{folded, answer_code, event_code, record
 
 use apply_events::Answer;
 use event_reading::Event;
-use state_rules::State;
 use state_rules::choice::places;
+use state_rules::{State, fresh};
 use table_rules::{PLACES, Refused};
 use task_records::Record;
-use task_steps::opening::no_record;
 
 // 2^40.
 const SPAN: u64 = 1099511627776;
@@ -72,9 +71,5 @@ pub fn fold_records(sum: u64, records: [Record; PLACES], count: usize) -> u64
 pub fn state_in(started: Result<State, Refused>) -> State
     ensures { result ≡ (as_started started).state }
 {
-    started.unwrap_or(State {
-        count: 0,
-        clock: 0,
-        records: [no_record(); PLACES],
-    })
+    fresh::state_in(started)
 }

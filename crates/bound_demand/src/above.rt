@@ -52,7 +52,7 @@ pub fn load_of(table: Table, k: usize) -> Load
         }
     }
     Load {
-        own: own.c,
+        own: Asked::from(own).cost,
         count,
         above,
     }

@@ -2,11 +2,10 @@
 use apply_engine::apply::apply;
 use apply_events::Answer;
 use state_rules::State;
+use state_rules::fresh::state_in;
 use std::io;
-use table_rules::PLACES;
 use task_records::Record;
 use task_records::closing::window;
-use task_steps::opening::no_record;
 
 fn answer(rt: &impl Print, said: Answer) -> io::Result<()> {
     match said {
@@ -67,18 +66,9 @@ fn whole(rt: &impl Print, state: State, log: &[u8]) -> io::Result<()> {
     println!(rt; "")
 }
 
-// A refused table begins no state: its events are applied to one of no tasks, which is not sound.
-fn first_state(table: &[u8]) -> State {
-    let none = State {
-        count: 0,
-        clock: 0,
-        records: [no_record(); PLACES],
-    };
-    state_reading::begun(table).unwrap_or(none)
-}
-
+// A refused table starts a state of no tasks, which is not sound.
 pub fn one(rt: &impl Print, table: &[u8], log: &[u8]) -> io::Result<()> {
-    let state = first_state(table);
+    let state = state_in(state_reading::begun(table));
     let last = events_on(rt, state, log)?;
     tasks(rt, last)?;
     whole(rt, state, log)

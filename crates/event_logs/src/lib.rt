@@ -51,10 +51,12 @@ pub fn rest(log: &[u8]) -> &[u8]
     ensures { result.now ≡ rest_of log.now }
 {
     let mut left = log;
-    while let Ok(Some(_)) = read(left) {
+    loop {
+        let Ok(Some(_)) = read(left) else {
+            return left;
+        };
         left = &left[EVENT_SIZE..];
     }
-    left
 }
 
 // How many records of a log read, up to the first that does not.

@@ -10,7 +10,7 @@ ghost use Rattle.apply_events.specs.Log.{state_after};
 ghost use Rattle.listing_text.specs.LogLines.{event_lines, stop_by};
 
 use apply_engine::apply::apply;
-use event_logs::Stop;
+use event_logs::{Stop, ended};
 use event_reading::{EVENT_SIZE, read};
 use state_rules::State;
 use text_writing::Sheet;
@@ -30,25 +30,20 @@ pub fn each_event(sheet: &mut Sheet<'_>, first: State, log: &[u8]) -> Ended
     let mut state = first;
     let mut i: usize = 0;
     let mut from: usize = 0;
-    let ending = loop {
-        match read(&log[from..]) {
-            Ok(Some(event)) => {
-                let done = apply(state, event);
-                state = done.state;
-                i += 1;
-                listing_event_line::event(sheet, i, done.answer);
-                from += EVENT_SIZE;
-            }
-            Ok(None) => break Ok(()),
-            Err(refusal) => {
-                break Err(Stop {
-                    refusal,
-                    offset: from,
-                });
-            }
-        }
-    };
-    Ended { state, ending }
+    loop {
+        let got = read(&log[from..]);
+        let Ok(Some(event)) = got else {
+            return Ended {
+                state,
+                ending: ended(got, from),
+            };
+        };
+        let done = apply(state, event);
+        state = done.state;
+        i += 1;
+        listing_event_line::event(sheet, i, done.answer);
+        from += EVENT_SIZE;
+    }
 }
 
 // The line that says where the reading stopped, if a record did not read.
@@ -57,6 +52,6 @@ pub fn stop(sheet: &mut Sheet<'_>, ending: Result<(), Stop>)
     ensures { Puts sheet.old sheet.new (stop_by (as_ending ending)) }
 {
     if let Err(found) = ending {
-        listing_refusal_line::stop(sheet, found);
+        listing_refusal_line::stop(sheet, found.refusal.number(), found.offset);
     }
 }

@@ -13,7 +13,7 @@ use listing_of_table::of_table;
 use listing_refusal_line::{refused, too_long};
 use refusals::Refusal;
 use table_reading::TASK_SIZE;
-use table_rules::{MOST_TASKS, Refused};
+use table_rules::MOST_TASKS;
 use text_writing::Sheet;
 
 // No listing is longer.
@@ -40,13 +40,7 @@ fn lines(sheet: &mut Sheet<'_>, input: &[u8])
     }
     match events_from(input) {
         Some(from) => of_table(sheet, &input[1..from], &input[from..]),
-        None => refused(
-            sheet,
-            Refused {
-                refusal: Refusal::TaskCount,
-                position: 0,
-            },
-        ),
+        None => refused(sheet, Refusal::TaskCount.number(), 0),
     }
 }
 

@@ -31,6 +31,8 @@ pub fn of_table(sheet: &mut Sheet<'_>, bytes: &[u8], log: &[u8])
 {
     match table_reading::table::read(bytes) {
         Ok(table) => accepted(sheet, table, log),
-        Err(refused) => listing_refusal_line::refused(sheet, refused),
+        Err(found) => {
+            listing_refusal_line::refused(sheet, found.refusal.number(), found.position);
+        }
     }
 }

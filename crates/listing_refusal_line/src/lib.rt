@@ -1,13 +1,9 @@
 // The lines that say what was not listed, put on a sheet.
 #![tactic(auto)]
 
-ghost use Rattle.refusals.specs.Numbers.{number_of};
 ghost use Rattle.text_writing.specs.Puts.{Puts};
 ghost use Rattle.listing_text.specs.RefusalLines.{too_long, found_at, refused_line, stop_line};
 
-use event_logs::Stop;
-use refusals::Refusal;
-use table_rules::Refused;
 use text_writing::Sheet;
 
 pub fn too_long(sheet: &mut Sheet<'_>)
@@ -17,22 +13,22 @@ pub fn too_long(sheet: &mut Sheet<'_>)
 }
 
 // A word, a refusal's number, and where it was found.
-fn found_at(sheet: &mut Sheet<'_>, word: &[u8], refusal: Refusal, place: usize)
-    ensures { Puts sheet.old sheet.new (found_at word.now (number_of refusal) place) }
+fn found_at(sheet: &mut Sheet<'_>, word: &[u8], number: u8, place: usize)
+    ensures { Puts sheet.old sheet.new (found_at word.now number place) }
 {
-    sheet.field(word, u64::from(refusal.number()));
+    sheet.field(word, u64::from(number));
     sheet.field(b" at ", place as u64);
     sheet.words(b"\n");
 }
 
-pub fn refused(sheet: &mut Sheet<'_>, found: Refused)
-    ensures { Puts sheet.old sheet.new (refused_line (number_of found.refusal) found.position) }
+pub fn refused(sheet: &mut Sheet<'_>, number: u8, position: usize)
+    ensures { Puts sheet.old sheet.new (refused_line number position) }
 {
-    found_at(sheet, b"table refused ", found.refusal, found.position);
+    found_at(sheet, b"table refused ", number, position);
 }
 
-pub fn stop(sheet: &mut Sheet<'_>, found: Stop)
-    ensures { Puts sheet.old sheet.new (stop_line (number_of found.refusal) found.offset) }
+pub fn stop(sheet: &mut Sheet<'_>, number: u8, offset: usize)
+    ensures { Puts sheet.old sheet.new (stop_line number offset) }
 {
-    found_at(sheet, b"stop ", found.refusal, found.offset);
+    found_at(sheet, b"stop ", number, offset);
 }

@@ -1,10 +1,10 @@
 -- What reading one byte more does, at any width: the bytes that are left, and what was read behind them, spell the whole.
-use Prim.Native.Nat.{ℕ, suc, ◌+◌, ◌-◌, ◌*◌, ◌^◌, ◌≤◌, ◌<◌}
+use Prim.Native.Nat.{ℕ, zero, suc, ◌+◌, ◌-◌, ◌*◌, ◌^◌, ◌≤◌, ◌<◌}
 use mathlib.Core.Path.{◌≡◌, refl, ◌∙◌}
 use mathlib.Core.List.{List, [], ◌∷◌, ◌++◌}
 use native.Mathlib.Nat.{pow-suc, pow-zero, pow-le-pow_right, lt_of_lt_of_le, mul-add, mul_assoc, mul_comm, sub_self, sub-zero}
 use native.Mathlib.Omega.{arith}
-use lib.ListN.{length, length-append}
+use lib.ListN.{length, length-append, take}
 use lib.Seq.{get_or-append_seam, take-append_seam}
 use lib.Dec.{lit<}
 use Rattle.std.proofs.lemmas.List.{nil_from_length}
@@ -66,3 +66,10 @@ all_read s rest x h e =
 -- fewer bytes have less room
 pub wider : (x m n : ℕ) → x < 256 ^ m → m ≤ n → x < 256 ^ n
 wider x m n h p = lt_of_lt_of_le h (pow-le-pow_right {n = 256} (lit< tt) {i = m} {j = n} p)
+
+-- n bytes spell less than 256 ^ n
+pub number_small : (n : ℕ) (s : List ℕ) → AreBytes s → number (take n s) < 256 ^ n
+unfolding number
+number_small zero s f = omega (arith, pow-zero 256)
+number_small (suc n) [] f = omega (arith, pow-suc 256 n, number_small n [] f)
+number_small (suc n) (b ∷ s) f = omega (arith, pow-suc 256 n, f 0, number_small n s (λ i. f (suc i)))

@@ -1,7 +1,7 @@
 // Little-endian numbers read from byte slices: one reader, over the type of the number, which has the width.
 #![tactic(auto)]
 
-ghost use Rattle.std.specs.Prelude.{ℕ, ◌≡◌, ◌≤◌, ◌<◌, ◌^◌, length, take};
+ghost use Rattle.std.specs.Prelude.{ℕ, ◌≡◌, ◌≤◌, ◌<◌, ◌%◌, ◌^◌, length, take};
 ghost use Rattle.std.proofs.Common.{arith};
 ghost use Rattle.number_reading.specs.Words.{number};
 
@@ -14,9 +14,9 @@ pub trait Number: Copy {
     // Its bytes.
     const WIDTH: usize;
 
+    // The number, or what of it the type has bytes for.
     fn narrow(x: u64) -> Self
-        requires { x < 256 ^ WIDTH }
-        ensures { value result ≡ x };
+        ensures { value result ≡ x % 256 ^ WIDTH };
 
     fn wide(self) -> u64
         ensures { result ≡ value self };
@@ -32,7 +32,7 @@ impl Number for u32 {
     const WIDTH: usize = 4;
 
     fn narrow(x: u64) -> u32 {
-        x as u32
+        (x % 4294967296) as u32
     }
 
     fn wide(self) -> u64 {

@@ -17,6 +17,6 @@ pub extern "C" fn brumerola_choice(table: &[u8], log: &[u8]) -> u32
     }
     match begun(table) {
         Ok(state) => log_code(state, log),
-        Err(refused) => refusal(refused.refusal),
+        Err(refused) => refusal(refused.refusal.number()),
     }
 }

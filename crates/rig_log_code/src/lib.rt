@@ -2,19 +2,17 @@
 #![tactic(auto)]
 
 ghost use Rattle.std.specs.Prelude.{◌≡◌, ◌+◌, ◌^◌, ◌<◌};
-ghost use Rattle.refusals.specs.Numbers.{number_of};
 ghost use Rattle.apply_events.specs.Answer.{as_told};
 ghost use Rattle.rig_codes.specs.Code.{code_for, of_answer, log_case};
 
 use apply_events::Answer;
-use refusals::Refusal;
 use state_rules::State;
 
 // 32 + N for refusal N.
-pub fn refusal(refused: Refusal) -> u32
-    ensures { result ≡ 32 + number_of refused }
+pub fn refusal(number: u8) -> u32
+    ensures { result ≡ 32 + number }
 {
-    32 + u32::from(refused.number())
+    32 + u32::from(number)
 }
 
 // The chosen task, 0 to 15, 16 for none, or the refusal.
@@ -25,7 +23,7 @@ fn code_of(answer: Answer) -> u32
     match answer {
         Ok(Some(chosen)) => chosen.position as u32,
         Ok(None) => 16,
-        Err(refused) => refusal(refused),
+        Err(refused) => refusal(refused.number()),
     }
 }
 
@@ -36,6 +34,6 @@ pub fn log_code(state: State, log: &[u8]) -> u32
     let ran = apply_engine::log::run(state, log);
     match ran.ending {
         Ok(()) => code_of(ran.answer),
-        Err(stop) => refusal(stop.refusal),
+        Err(stop) => refusal(stop.refusal.number()),
     }
 }

@@ -31,3 +31,14 @@ pub fn start(table: Table) -> Result<State, Refused>
     judge(table)?;
     Ok(filled_by(table))
 }
+
+// The state that is started: a table that is refused starts a state of no tasks.
+pub fn state_in(started: Result<State, Refused>) -> State
+    ensures { result ≡ (as_started started).state }
+{
+    started.unwrap_or(State {
+        count: 0,
+        clock: 0,
+        records: [no_record(); PLACES],
+    })
+}

@@ -38,3 +38,13 @@ pub fn read(bytes: &[u8]) -> Result<Table, Refused>
     }
     read_records(bytes, count)
 }
+
+// What is read: a table that is refused is read as a table of no tasks.
+pub fn table_in(read: Result<Table, Refused>) -> Table
+    ensures { result ≡ (as_table_read read).table }
+{
+    read.unwrap_or(Table {
+        count: 0,
+        tasks: [Task::default(); PLACES],
+    })
+}

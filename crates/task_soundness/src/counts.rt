@@ -14,8 +14,9 @@ fn marks_within(marks: u64, n: u64) -> bool
 fn balance_holds(of: Record) -> bool
     ensures { result ≡ eqb of.released (of.met + of.missed + open_of of) }
 {
-    let closed = of.met.checked_add(of.missed);
-    closed.and_then(|n| n.checked_add(u64::from(of.live))) == Some(of.released)
+    of.met <= of.released
+        && of.missed <= of.released - of.met
+        && of.released - of.met - of.missed == u64::from(of.live)
 }
 
 fn totals_hold(of: Record, closed: u64) -> bool

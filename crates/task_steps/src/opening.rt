@@ -48,7 +48,7 @@ pub fn no_record() -> Record
 pub fn is_late(of: Record, time: u64) -> bool
     ensures { result ≡ late of time }
 {
-    of.live && of.last < time.saturating_sub(u64::from(of.task.d))
+    of.live && u64::from(of.task.d) < time && of.last < time - u64::from(of.task.d)
 }
 
 #[tactic(auto, unfolding(crate::specs::Opening::expired))]

@@ -26,7 +26,7 @@ returns-then-input-gt-MOST_BYTES c =
 pub returns-in-None : goal.returns-in-None
 unfolding listing_of
 returns-in-None c =
-    rw (le-ltb _ _ c.if-input-gt-MOST_BYTES.false, missing_by _ _ c.in-None.ensures) c.refused.ensures
+    rw (le-ltb _ _ c.if-input-gt-MOST_BYTES.false, missing_by _ _ c.in-None.ensures) (rw c.number.ensures at c.refused.ensures)
 
 pub returns-in-Some : goal.returns-in-Some
 unfolding listing_of

@@ -16,4 +16,4 @@ returns-in-Ok c = rw (← c.in-Ok.ensures) c.accepted.ensures
 
 pub returns-in-Err : goal.returns-in-Err
 unfolding listed
-returns-in-Err c = rw (← c.in-Err.ensures) c.refused.ensures
+returns-in-Err c = rw (← c.in-Err.ensures) (rw c.number.ensures at c.refused.ensures)

@@ -3,4 +3,4 @@ use Rattle.text_writing.proofs.Putting.{then_put}
 use Rattle.listing_refusal_line.proofs.found_at.Goals as goal
 
 pub returns : goal.returns
-returns c = then_put (rw (c.from.ensures, c.number.ensures) at c.field.ensures) (then_put c.field-2.ensures c.words.ensures)
+returns c = then_put (rw c.from.ensures at c.field.ensures) (then_put c.field-2.ensures c.words.ensures)

@@ -1,14 +1,6 @@
 -- `brumerola_choice` meets its contract: the length, then the table, then the log on the fresh state of a table that has no refusal of its own.
-use mathlib.Core.Path.{◌≡◌, refl, sym, ap, ◌∙◌}
-use Rattle.std.specs.Prelude.{Ok, Err}
-use Rattle.laws.proofs.Tests.{impossible}
-use Rattle.refusals.specs.Numbers.{number_of}
-use Rattle.table_rules.specs.declared.Refused as D
-use Rattle.table_rules.specs.declared.Table.{Table}
-use Rattle.table_rules.specs.Answers.{Answer, Accepted, Refused}
-use Rattle.state_rules.specs.Started.{Started}
+use mathlib.Core.Path.{sym, ap, ◌∙◌}
 use Rattle.state_rules.specs.declared.State.{State}
-use Rattle.state_rules.specs.State.{fresh_state, as_started, started_by}
 use Rattle.state_reading.proofs.Starts.{begun_by, refused_by}
 use Rattle.rig_codes.specs.Code.{code_for, log_case, code_of}
 use Rattle.rig_codes.proofs.Cases.{case_long, case_table, case_log}
@@ -33,4 +25,4 @@ unfolding code_of
 returns-in-Err c =
     let a = c.args in
     let e = refused_by _ _ _ c.in-Err.ensures in
-    c.refusal.ensures ∙ sym (ap code_for (case_table a.table.now a.log.now c.if-log-gt-MOST_BYTES.false _ _ e))
+    (rw c.number.ensures at c.refusal.ensures) ∙ sym (ap code_for (case_table a.table.now a.log.now c.if-log-gt-MOST_BYTES.false _ _ e))

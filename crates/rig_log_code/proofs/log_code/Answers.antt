@@ -23,4 +23,4 @@ pub returns-in-Err : goal.returns-in-Err
 returns-in-Err c =
     let a = c.args in
     let e = sym (ap (λ (x : Ran). x.ending) c.run-ran.ensures) ∙ ap as_ending c.in-Err.is in
-    c.refusal.ensures ∙ sym (ap code_for (case_stopped a.state a.log.now _ _ e))
+    (rw c.number.ensures at c.refusal.ensures) ∙ sym (ap code_for (case_stopped a.state a.log.now _ _ e))
