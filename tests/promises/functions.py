@@ -6,12 +6,12 @@ from there import CRATES, ROOT, missing, read, sources
 # Public functions that break rules, each with the rules (`requires`, `contract`, `equation` or `lent`); docs/DECISIONS.md names each and says why.
 EXCEPTED = {
     "bound_search::search::bound_in": ["requires"],
-    "apply_engine::acting::act": ["requires"],
     "tally_rules::adding::put_in": ["requires"],
     "case_frames::input::read_full": ["equation", "lent"],
 }
 decisions = read(ROOT / "docs/DECISIONS.md")
 needed = set()
+laws = {law for path in sources("proofs", ".antt") for law in re.findall(r"^ *pub (\w+_tells) :", read(path), re.M)}
 
 
 def public_files(crate):
@@ -61,8 +61,16 @@ def has(kind, clauses):
     return re.search(rf"^\s*{kind}( \w+)? \{{", clauses, re.M)
 
 
+def views_tell(function, clauses):
+    """Each view of an answer that a contract cites has a theorem that it tells the whole answer."""
+    for view in re.findall(r"\bas_\w+|\bfault_in\b", clauses):
+        if (law := view.removeprefix("as_").removesuffix("_in") + "_tells") not in laws:
+            missing.append(f"{function} says its answer by {view}, and no {law} shows that this tells all of it")
+
+
 def judge(function, parameters, result, clauses):
     """What one public function's contract has to say."""
+    views_tell(function, clauses)
     if has("requires", clauses):
         breaks(function, "requires", "has a `requires`")
     if not has("ensures", clauses):
@@ -74,9 +82,17 @@ def judge(function, parameters, result, clauses):
             breaks(function, "lent", f"says nothing of what {lent} holds afterwards")
 
 
+def judge_traits(crate, text):
+    """A step of a public trait asks nothing, as a public function does."""
+    for name, body in re.findall(r"^pub trait (\w+)[^{]*\{(.*?)^\}", text, re.M | re.S):
+        if has("requires", body):
+            breaks(f"{crate.name}::{name}", "requires", "has a step with a `requires`")
+
+
 def judge_file(crate, path):
     """How many public functions the file has, each judged."""
     text = read(path)
+    judge_traits(crate, text)
     found = list(re.finditer(r'^ *pub (?:extern "C" )?fn (\w+)(?:<[^>]*>)?\((.*?)\)(?: -> (.*?))?$(.*?)(?:^ *\{|\{$)', text, re.M | re.S))
     if len(found) != len(re.findall(r"^\s*pub\b.*\bfn ", text, re.M)):
         missing.append(f"{path.relative_to(ROOT)}: a public function is not in a form that is read here")
